@@ -3,12 +3,14 @@
 import random
 import signal
 import tempfile
+from collections.abc import Iterator
 from contextlib import ExitStack
 from functools import cache
 from pathlib import Path
-from typing import Any, Iterator
+from typing import Any
 
 import pytest
+
 from tests.program.support.sharing import NETREV, is_program
 
 pytest.register_assert_rewrite("tests.support")

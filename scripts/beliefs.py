@@ -45,7 +45,10 @@ def main(given_words: list[str] | None = None) -> int:
     given.add_argument("--root", type=Path, default=ROOT, help=argparse.SUPPRESS)
     given.add_argument("definitions", nargs="*", metavar="CRATE/FILE:NAME", help="these, and not the laws")
     options = given.parse_args(given_words)
-    laws = tuple(Law(f"`{definition.rpartition(':')[2]}`", (definition,)) for definition in options.definitions) or reading_list.LAWS
+    laws = (
+        tuple(Law(f"`{definition.rpartition(':')[2]}`", (definition,)) for definition in options.definitions)
+        or reading_list.LAWS
+    )
     found = ReadingList(Tree(options.root), laws)
     if found.missing:
         given.error(f"there is no definition {', '.join(found.missing)}")

@@ -17,8 +17,9 @@ import shutil
 import subprocess
 import sys
 import tempfile
+from collections.abc import Iterator
 from pathlib import Path
-from typing import Iterator, NamedTuple
+from typing import NamedTuple
 
 ROOT = Path(__file__).resolve().parent.parent
 CONSTANT = re.compile(r"^ *(?:pub(?:\(crate\))? )?const (\w+): [iu](?:8|16|32|64|size) = (.+);$", re.M)

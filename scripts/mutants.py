@@ -160,7 +160,9 @@ def check(folder, functions, jobs):
     words = ["rt", "check", "--jobs", str(jobs)]
     for function in sorted(functions):
         words += ["--only", function]
-    process = subprocess.run(words, cwd=folder, stdout=subprocess.PIPE, stderr=subprocess.STDOUT, text=True, check=False)
+    process = subprocess.run(
+        words, cwd=folder, stdout=subprocess.PIPE, stderr=subprocess.STDOUT, text=True, check=False
+    )
     verdicts: dict[str, list[str]] = {}
     for line in process.stdout.splitlines():
         match = re.match(r"fn (\S+?): (.*)", line)
@@ -186,7 +188,9 @@ def verdict(edit, verdicts, output):
         if any(f"::{name}".endswith(f"::{function}") for function in edit.functions)
         for line in lines
     ]
-    return any(is_own(name, line, output) for name, line in matching_lines), [f"{name}: {line}" for name, line in matching_lines]
+    return any(is_own(name, line, output) for name, line in matching_lines), [
+        f"{name}: {line}" for name, line in matching_lines
+    ]
 
 
 def try_batch(crate, batch, jobs):

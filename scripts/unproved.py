@@ -14,9 +14,10 @@ import signal
 import subprocess
 import tempfile
 import time
+from collections.abc import Callable, Iterator
 from contextlib import contextmanager
 from pathlib import Path
-from typing import IO, Callable, Iterator, Optional
+from typing import IO
 
 ROOT = Path(__file__).resolve().parent.parent
 KEPT = ROOT / "out/look"
@@ -201,7 +202,7 @@ def await_program(process: subprocess.Popen[bytes], pipe: str, log: IO[bytes], s
     return program
 
 
-def running_program(ancestor: int, pipe: str) -> Optional[Path]:
+def running_program(ancestor: int, pipe: str) -> Path | None:
     """Finds the program that checks the pipe among the descendants of a process, and returns its file."""
     parents = {int(path.name): parent_of(path) for path in Path("/proc").iterdir() if path.name.isdigit()}
     for process in parents:
@@ -227,7 +228,7 @@ def is_below(process: int, ancestor: int, parents: dict[int, int]) -> bool:
     return process == ancestor
 
 
-def program_checking(folder: Path, pipe: str) -> Optional[Path]:
+def program_checking(folder: Path, pipe: str) -> Path | None:
     """The program of a process, if it is checking the pipe. The toolchain starts it with its own loader, so the program is the word before
     `check`."""
     try:

@@ -15,17 +15,16 @@ from netrev.system.command_lines import command
 from .doctor import doctor
 from .go_command.outputs import base_name, look, numbered
 from .go_command.run_folders import claim
-from .go_command.running import GoRunner, shell_status, relative_to_folder, limits_of, log_of_process, logs_folder
+from .go_command.running import GoRunner, limits_of, log_of_process, logs_folder, relative_to_folder, shell_status
 from .go_command.status import ExitStatus
 from .go_command.toolchain import Go, RecorderError, find_go
-from .recordings import RecordingMaker, ReportPrinter, complain, say, unwritten
-from .options import POSSIBLE, SUSPECTS, asks_for_help, check, help_of, of_a_process, parser
-from .recovery import offer, recover
-from .steps.conversion import RecordingOptions, convert
 from .go_test import record_tests
+from .options import POSSIBLE, SUSPECTS, asks_for_help, check, help_of, of_a_process, parser
+from .recordings import RecordingMaker, ReportPrinter, complain, say, unwritten
+from .recovery import offer, recover
 from .release_check import ready
 from .snapshots import snapshot, watch
-
+from .steps.conversion import RecordingOptions, convert
 
 KNOWN: list[object] = []  # data of the last converted log; kept until exit, because freeing it is slow
 

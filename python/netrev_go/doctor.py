@@ -5,8 +5,8 @@ from __future__ import annotations
 import tempfile
 
 from netrev.messages import recorder as messages
-from netrev.system.program_path import netrev_program
 from netrev.system.command_lines import how_to_get_netrev
+from netrev.system.program_path import netrev_program
 
 from .go_command.calls_of_go import unknown_calls
 from .go_command.line_reader import build_line_reader

@@ -21,13 +21,20 @@ from netrev.text.plurals import counted
 from .go_command.linking import kept
 from .go_command.outputs import base_name, check_folder
 from .go_command.run_folders import claim
-
-from .go_command.running import GoRunner, shell_status, relative_to_folder, limits_of, logs_folder, still_written, stop_at_once  # fmt: skip
+from .go_command.running import (  # fmt: skip
+    GoRunner,
+    limits_of,
+    logs_folder,
+    relative_to_folder,
+    shell_status,
+    still_written,
+    stop_at_once,
+)
 from .go_command.toolchain import Go
+from .go_test_results import Recordings
 from .recordings import RecordingMaker, complain, leave, report_no_log, report_unrecorded, say
 from .steps import forms
 from .steps.conversion import RecordingOptions
-from .go_test_results import Recordings
 
 SO_FAR = "test"  # the base name of the recordings made while a run is in progress
 FOLDER = "recordings"
@@ -78,14 +85,18 @@ def rounds(options: argparse.Namespace) -> Iterator[Round]:
         yield Round(number, changed, options.delays + number if options.delays else 0)
 
 
-def record_tests(options: argparse.Namespace, go: Go, command: list[str], recording_options: RecordingOptions) -> TestResults:
+def record_tests(
+    options: argparse.Namespace, go: Go, command: list[str], recording_options: RecordingOptions
+) -> TestResults:
     """Runs the tests as often as requested, and makes recordings of failing tests."""
     base = base_name(options.o, FOLDER)
     check_folder(base)
     recordings = Recordings(base, go, recording_options, options.all or options.explore is not None, options.html)
     results = TestResults()
     with kept(go, options.words_of_go, most_runs(options) != 1) as more:
-        run_all(options, go, [*command[:2], *relative_to_folder(command[2:], more)], recording_options, recordings, results)
+        run_all(
+            options, go, [*command[:2], *relative_to_folder(command[2:], more)], recording_options, recordings, results
+        )
     if any(UNTESTED.match(word) for word in options.words_of_go):
         complain(messages.ONLY_TESTS.format(netrev_go=tool("netrev-go")))
     results.all_recorded = results.all_recorded and recordings.all_recorded
@@ -122,7 +133,12 @@ class GoRun:
     """One run of Go's command, and its logs."""
 
     def __init__(
-        self, options: argparse.Namespace, go: Go, command: list[str], recording_options: RecordingOptions, recordings: Recordings
+        self,
+        options: argparse.Namespace,
+        go: Go,
+        command: list[str],
+        recording_options: RecordingOptions,
+        recordings: Recordings,
     ) -> None:
         self._options, self._go, self._command, self._wish = options, go, command, recording_options
         self._recordings = recordings

@@ -16,16 +16,16 @@ from itertools import count
 from netrev.connection.errors import unexpected
 from netrev.errors import NetrevError
 from netrev.messages import recorder as messages
-from netrev.system.program_path import BUILT, netrev_program
 from netrev.system.command_lines import PACKAGES, file_word
+from netrev.system.program_path import BUILT, netrev_program
 from netrev.text.plain import plain
 
 from .go_command.outputs import LONGEST_ENDING, numbered
-from .go_command.running import shell_status, logs_in
+from .go_command.running import logs_in, shell_status
 from .go_command.toolchain import Go
-from .recordings import ReportPrinter, complain, say, unwritten
 from .log.logfile import NotALogError, read_log
 from .log.tests_in_log import Ran, Tests, of_log
+from .recordings import ReportPrinter, complain, say, unwritten
 from .steps.conversion import ReadLog, RecordingOptions, converted
 from .steps.forms import TestResult
 from .steps.report import Conversion, Hear, unheard
@@ -168,7 +168,12 @@ class Recordings:
         for result in recorded:
             result.possible = findings(str(result.recording), seconds / len(recorded))
             if result.possible:
-                say([plain(f"possible, {result.package} {result.test}:"), *(f"  {plain(line)}" for line in result.possible)])
+                say(
+                    [
+                        plain(f"possible, {result.package} {result.test}:"),
+                        *(f"  {plain(line)}" for line in result.possible),
+                    ]
+                )
         return any(result.possible for result in recorded)
 
 

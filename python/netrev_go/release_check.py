@@ -13,15 +13,15 @@ import tempfile
 from dataclasses import dataclass
 
 from netrev.messages import recorder as messages
-from netrev.system.program_path import netrev_program
 from netrev.system.command_lines import command
+from netrev.system.program_path import netrev_program
 from netrev.text.plain import plain
 
 from .go_command.line_reader import prepare_line_reader
 from .go_command.running import LOG
 from .go_command.toolchain import SOURCES, Go, RecorderError, is_tried, left_out, overlay, quiet_go, tried
-from .recordings import say
 from .log.logfile import NotALogError, read_log
+from .recordings import say
 from .steps.analysis import check
 from .steps.compare import DIFFERS, by_the_model, differing
 from .steps.recording_builder import NewRecording, NothingRecordedError, UnconvertibleError, make, write, write_words
@@ -67,7 +67,9 @@ def tried_in(go: Go, folder: pathlib.Path) -> Trial:
     sentences = []
     for processors in PROCESSORS:
         for moment in MOMENTS:
-            trial_run = recorded([str(program), str(moment)], folder / f"{processors}-{moment}", processors, not left_out(go))
+            trial_run = recorded(
+                [str(program), str(moment)], folder / f"{processors}-{moment}", processors, not left_out(go)
+            )
             if not trial_run.is_hasty:
                 break
         if not trial_run.good:

@@ -19,11 +19,11 @@ from .go_command.outputs import base_name, look, numbered
 from .go_command.running import log_of_process, writes
 from .go_command.status import ExitStatus
 from .go_command.toolchain import Go, RecorderError
-from .recordings import ReportPrinter, complain, say
 from .log.lines import Calls, SourceRoots, lines_of
 from .log.logfile import HEADER_BYTES, ROW_WORDS, WAITER_WORDS, WORD, Header, NotALogError, stack_at
 from .log.notes import PARKED
 from .log.points import Log
+from .recordings import ReportPrinter, complain, say
 from .steps.conversion import RecordingOptions, convert, program_of
 from .steps.report import line_of
 from .steps.where import own_line
@@ -122,7 +122,9 @@ class Watch:
         return f"{line}: {function + ' ' if function else ''}{wait.what} since {(now - wait.since) / 1e9:.1f} s (goid {wait.goroutine})"
 
 
-def snapshot(options: argparse.Namespace, go: Go | None, recording_options: RecordingOptions, known: list[object]) -> int:
+def snapshot(
+    options: argparse.Namespace, go: Go | None, recording_options: RecordingOptions, known: list[object]
+) -> int:
     """Makes a recording of a running process at once."""
     base = base_name(options.o, "snapshot")
     look(base)

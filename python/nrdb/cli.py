@@ -9,9 +9,9 @@ import os
 import shlex
 import shutil
 import sys
+from collections.abc import Callable, Sequence
 from contextlib import closing, nullcontext
 from functools import partial
-from typing import Callable, Optional, Sequence
 
 from netrev.connection.arriving_changes import ArrivingChanges
 from netrev.connection.errors import MismatchedRecordingError, unexpected
@@ -34,7 +34,7 @@ from .prompt.answers import ANSWERS
 DONE, REFUSED, USAGE, FAILED, SUSPECTS = range(5)
 
 
-def main(words: Optional[Sequence[str]] = None) -> int:
+def main(words: Sequence[str] | None = None) -> int:
     """Runs nrdb with these arguments, and returns the exit status."""
     gc.set_threshold(200_000)  # (a recording of a million steps makes millions of objects, few of them in cycles)
     wanted = parsed(sys.argv[1:] if words is None else words)
@@ -84,7 +84,7 @@ def run(wanted: argparse.Namespace, printer: Printer) -> int:
     return status
 
 
-def without_netrev(file: Optional[str]) -> str:
+def without_netrev(file: str | None) -> str:
     """The message that says what to do if the program netrev can't be started."""
     look = make_command(f"look FILE={shlex.quote(os.path.abspath(file))}") if file else None
     how = how_to_get_netrev("NETREV or --netrev")

@@ -1,14 +1,14 @@
 """The command line of nrdb."""
 
 import argparse
-from typing import Any, NoReturn, Optional, Sequence
+from collections.abc import Sequence
+from typing import Any, NoReturn
 
 from netrev.system.program_path import BUILT, netrev_program
 from netrev.system.provenance import program_lines
 from netrev.system.version import VERSION
 from netrev.text.plain import plain
 from netrev.text.vocabulary import number_of
-
 
 DESCRIPTION = """\
 Debug a recorded run of a Go program's goroutines, sockets and deadlines, forwards and backwards. nrdb runs netrev, the proved
@@ -23,7 +23,7 @@ At the prompt, `help` lists the commands."""
 class InOrder(argparse.Action):
     """Keeps -x and -ex in the order in which they were given."""
 
-    def __call__(self, _parser: Any, space: argparse.Namespace, value: Any, _option: Optional[str] = None) -> None:
+    def __call__(self, _parser: Any, space: argparse.Namespace, value: Any, _option: str | None = None) -> None:
         space.lines = [*(space.lines or []), (self.const, value)]
 
 

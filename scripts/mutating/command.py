@@ -15,9 +15,7 @@ from . import equivalent
 from .changes import KINDS, Mutant
 from .topics import MOST, note_calls, read_topics
 
-from .trials import (
-    FOUND, PACKAGES, ROOT, UNBUILT, Verdict, all_mutants, drawn, python_with_pytest, tried,
-)  # fmt: skip
+from .trials import FOUND, PACKAGES, ROOT, UNBUILT, Verdict, all_mutants, drawn, python_with_pytest, tried  # fmt: skip
 
 KEPT = ROOT / "out/mutants"
 NOTES = KEPT / "called.jsonl"
@@ -54,8 +52,12 @@ def table(verdicts: list[Verdict]) -> str:
             change = f"`{' '.join(mutant.old.split())[:70]}` to `{' '.join(mutant.new.split())[:70]}`".replace(
                 "|", "\\|"
             )
-            lines.append(f"| {mutant.file}:{mutant.line} {mutant.function} | {mutant.kind} | {change} | {verdict.answer} |")
-    counts = Counter((verdict.mutant.kind, verdict.answer == FOUND) for verdict in verdicts if verdict.answer != UNBUILT)
+            lines.append(
+                f"| {mutant.file}:{mutant.line} {mutant.function} | {mutant.kind} | {change} | {verdict.answer} |"
+            )
+    counts = Counter(
+        (verdict.mutant.kind, verdict.answer == FOUND) for verdict in verdicts if verdict.answer != UNBUILT
+    )
     lines += ["", "| Kind | Tried | Found |", "|---|---|---|"]
     for kind in KINDS:
         found = counts[kind, True]
@@ -91,9 +93,19 @@ def main(words: list[str]) -> int:
         with open(log, "a", encoding="utf-8") as kept:
             for verdict in tried(chosen, topics, room, given.jobs, python):
                 verdicts.append(verdict)
-                row = verdict.answer, verdict.mutant.name(), verdict.mutant.line, verdict.mutant.kind, verdict.by, round(verdict.seconds, 1)
+                row = (
+                    verdict.answer,
+                    verdict.mutant.name(),
+                    verdict.mutant.line,
+                    verdict.mutant.kind,
+                    verdict.by,
+                    round(verdict.seconds, 1),
+                )
                 print(json.dumps(row), file=kept, flush=True)
-                print(f"{verdict.answer}: {verdict.mutant.file}:{verdict.mutant.line} {verdict.by} ({verdict.seconds:.0f} s)", flush=True)
+                print(
+                    f"{verdict.answer}: {verdict.mutant.file}:{verdict.mutant.line} {verdict.by} ({verdict.seconds:.0f} s)",
+                    flush=True,
+                )
     print(table(verdicts))
     found = sum(verdict.answer == FOUND for verdict in verdicts)
     total = sum(verdict.answer != UNBUILT for verdict in verdicts)

@@ -19,7 +19,6 @@ from threading import Lock, Thread
 
 from .changes import KINDS, NOT_PUT_IN, TOO_LONG, Mutant, can_compile, mutants_of
 from .go_changes import go_mutants_of
-
 from .topics import Test, Topics
 
 ROOT = Path(__file__).resolve().parent.parent.parent

@@ -32,8 +32,15 @@ class Cited:
         """The labels of a subject: a function's clauses, all clauses of an `impl`, or a definition."""
         if found := IMPL.fullmatch(subject):
             trait, owner = found.groups()
-            functions = [function for crate in self.all for function in crate.functions if trait in (one.owner, one.trait)]
-            labels = {label for function in functions for label in function.labels} | {function.name for function in functions}
+            functions = [
+                function
+                for crate in self.all
+                for function in crate.functions
+                if trait in (function.owner, function.trait)
+            ]
+            labels = {label for function in functions for label in function.labels} | {
+                function.name for function in functions
+            }
             return labels | {name for crate in self.all for name in crate.names | crate.definitions}
         parts = QUALIFIED.fullmatch(subject)
         if parts is None:

@@ -56,7 +56,9 @@ def needed(tree: Tree) -> dict[str, set[str]]:
     found: dict[str, set[str]] = defaultdict(set)
     for path in tree.matching("crates/*.rt", "crates/*.antt"):
         own = path.split("/")[1]
-        imports = [imported for imported in IMPORT.findall(tree.text(path)) if imported[0] != own or path.endswith(".rt")]
+        imports = [
+            imported for imported in IMPORT.findall(tree.text(path)) if imported[0] != own or path.endswith(".rt")
+        ]
         contracts = ""
         for crate, module, names, alias in imports:
             if crate != own:

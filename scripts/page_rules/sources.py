@@ -49,7 +49,11 @@ class Crate:
 
     def called(self, name: str, owner: str = "") -> list[Function]:
         """The functions with this name, and with this owner or module if one is given."""
-        return [function for function in self.functions if function.name == name and owner in ("", function.owner, function.trait, function.module)]
+        return [
+            function
+            for function in self.functions
+            if function.name == name and owner in ("", function.owner, function.trait, function.module)
+        ]
 
 
 def without_comments(text: str) -> str:

@@ -9,7 +9,6 @@ import os
 import subprocess
 import sys
 from pathlib import Path
-from typing import Optional
 
 ROOT = Path(__file__).resolve().parents[3]
 NETREV = os.environ.get("NETREV", str(ROOT / "crates/netrev/out/netrev"))
@@ -18,7 +17,7 @@ BASELINE = os.environ.get("NETREV_BASELINE")
 CPU = os.environ.get("CPU", "")  # as in `make netrev`
 
 
-def built_baseline() -> Optional[str]:
+def built_baseline() -> str | None:
     """The baseline's program; None if it can't be built."""
     if BASELINE:
         return BASELINE

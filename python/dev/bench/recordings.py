@@ -9,7 +9,6 @@ import random
 import shutil
 from collections.abc import Iterator
 from pathlib import Path
-from typing import Optional
 
 from tests.program.support.sharing import WrongResultError
 
@@ -19,7 +18,7 @@ AT_A_TIME = 100
 CHECKPOINTS = 64
 RESTARTS = 1_000
 BUFFER = 65_536  # bytes, as in the headers that netrev-go writes
-Query = tuple[str, Optional[str]]  # a line and its expected reply; None if the first program's reply is right
+Query = tuple[str, str | None]  # a line and its expected reply; None if the first program's reply is right
 LOOK: Query = ("print lock 0", None)
 
 

@@ -13,8 +13,8 @@ import os
 import sys
 import tempfile
 import time
+from collections.abc import Iterator, Sequence
 from pathlib import Path
-from typing import Iterator, Optional, Sequence
 
 from .cases import Case, make
 from .companion import visit
@@ -27,7 +27,7 @@ MOST_DIFFERENCES = 10
 OF_NRDB = "-nrdb"
 
 
-def arguments(words: Optional[Sequence[str]]) -> argparse.Namespace:
+def arguments(words: Sequence[str] | None) -> argparse.Namespace:
     parser = argparse.ArgumentParser(
         prog="fuzz", description="runs random cases with netrev and its model, and compares the outputs"
     )
@@ -48,7 +48,7 @@ def play_one(netrev: str, case: Case, counts: Met) -> bool:
     return bool(differs)
 
 
-def seeds(seed: str, most: Optional[int]) -> Iterator[str]:
+def seeds(seed: str, most: int | None) -> Iterator[str]:
     """The seeds of cases: this many, or an endless sequence."""
     number = 0
     while most is None or number < most:
@@ -61,7 +61,7 @@ def case_of(seed: str) -> Case:
     return visit(seed) if seed.rpartition("-")[0].endswith(OF_NRDB) else make(seed)
 
 
-def wanted_seeds(seed: str, cases: Optional[int], of: str) -> Iterator[str]:
+def wanted_seeds(seed: str, cases: int | None, of: str) -> Iterator[str]:
     """The seeds to run, for the chosen program. If no program is chosen, a number of cases means netrev; without a
     number, the seeds never end, and both programs get the same time."""
     of_netrev, of_nrdb = seeds(seed, cases), seeds(f"{seed}{OF_NRDB}", cases)
@@ -83,7 +83,7 @@ def play(
     seed: str,
     counts: Met,
     minutes: float = 5,
-    cases: Optional[int] = None,
+    cases: int | None = None,
     out: Path = ROOT / "out/fuzz",
     of: str = "",
 ) -> int:
@@ -107,7 +107,7 @@ def play(
     return found
 
 
-def main(words: Optional[Sequence[str]] = None) -> int:
+def main(words: Sequence[str] | None = None) -> int:
     options = arguments(words)
     netrev = os.environ.get("NETREV") or str(ROOT / "crates/netrev/out/netrev")
     if not Path(netrev).is_file():

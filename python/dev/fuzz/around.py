@@ -24,9 +24,9 @@ import tempfile
 import time
 import traceback
 from collections import Counter
+from collections.abc import Callable, Iterator, Sequence
 from contextlib import contextmanager, redirect_stderr
 from pathlib import Path
-from typing import Callable, Iterator, Optional, Sequence
 
 from netrev.connection.errors import WANTED_BY
 
@@ -98,7 +98,7 @@ def fault_of(seed: str, program: str) -> str:
         shutil.rmtree(folder, ignore_errors=True)
 
 
-def seeds(seed: str, sorts: Sequence[str], cases: Optional[int], until: float) -> Iterator[str]:
+def seeds(seed: str, sorts: Sequence[str], cases: int | None, until: float) -> Iterator[str]:
     """The seeds to run: this many of each kind, or endless seeds until the time is up, with the same time for each
     kind."""
     spent, counts = dict.fromkeys(sorts, 0.0), Counter[str]()
@@ -126,7 +126,7 @@ def play(program: str, all_seeds: Iterator[str]) -> tuple[Counter[str], int]:
     return counts, found
 
 
-def main(words: Optional[Sequence[str]] = None) -> int:
+def main(words: Sequence[str] | None = None) -> int:
     parser = argparse.ArgumentParser(prog="fuzz around", description="runs random cases for the tools around netrev")
     parser.add_argument("--minutes", type=float, default=5)
     parser.add_argument("--cases", type=int, help="the greatest number of cases of each kind")

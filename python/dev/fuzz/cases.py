@@ -1,7 +1,8 @@
 """The cases. Each is made from its seed, and consists of a recording's text, a script, and a subcommand of netrev."""
 
 import random
-from typing import Callable, NamedTuple, Optional, Sequence
+from collections.abc import Callable, Sequence
+from typing import NamedTuple
 
 from netrev.machine.machine import World
 from netrev.machine.steps import apply
@@ -18,7 +19,7 @@ from .generators.random_steps import Author, other_answer
 HEADER = b'{"netrev":1,"gor":1,"sock":1,"desc":1,"buf":1}\n'
 
 
-Made = tuple[bytes, Optional[bytes]]  # a recording's text, and the script if there is one
+Made = tuple[bytes, bytes | None]  # a recording's text, and the script if there is one
 
 
 class Case(NamedTuple):

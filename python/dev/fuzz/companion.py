@@ -10,8 +10,8 @@ import io
 import json
 import random
 from collections import Counter
+from collections.abc import Sequence
 from pathlib import Path
-from typing import Optional, Sequence
 
 from netrev.connection.arriving_changes import ArrivingChanges
 from netrev.connection.netrev import NetrevEndedError
@@ -20,7 +20,8 @@ from netrev.connection.scout import Scout
 from netrev.machine.cells import CELLS_OF_ALL, CELLS_OF_ONE
 from netrev.machine.observer import Observer
 from netrev.model.program import replay
-from netrev.model.session import ModelSession as ModelSession, recording_of
+from netrev.model.session import ModelSession as ModelSession
+from netrev.model.session import recording_of
 from netrev.recording.recording import Recording
 from netrev.session.session import Session
 from netrev.system.interrupts import Interrupts, SessionAbandonedError
@@ -116,7 +117,9 @@ def played(program: str, case: Case, folder: Path, counts: Met) -> str:
     return wrong
 
 
-def followed(program: str, path: str, lines: Sequence[str], weather: Weather, judge: Judge, counts: Counter[str]) -> str:
+def followed(
+    program: str, path: str, lines: Sequence[str], weather: Weather, judge: Judge, counts: Counter[str]
+) -> str:
     """Runs the lines in a session, and compares each event with the model."""
     interrupts, out = Interrupts(), io.StringIO()
 

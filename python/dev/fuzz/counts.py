@@ -1,7 +1,8 @@
 """Counts of the events in a run's cases, for the last lines of output."""
 
 from collections import Counter
-from typing import Any, Iterator, Mapping
+from collections.abc import Iterator, Mapping
+from typing import Any
 
 from netrev.machine.debugger import Reply, Request
 from netrev.machine.observer import Observer

@@ -5,7 +5,7 @@ import io
 import json
 import random
 from pathlib import Path
-from typing import Any, Optional
+from typing import Any
 
 from netrev.text.writer import write_plain
 from nrdb.dap.adapter import Adapter
@@ -122,7 +122,7 @@ def wrong(seed: str, folder: Path, program: str) -> str:
     return answers_wrong(requests, messages_in(written.getvalue()))
 
 
-def messages_in(data: bytes) -> Optional[list[dict[str, Any]]]:
+def messages_in(data: bytes) -> list[dict[str, Any]] | None:
     """The messages in a stream; None if it is malformed."""
     found = []
     while data:
@@ -133,7 +133,7 @@ def messages_in(data: bytes) -> Optional[list[dict[str, Any]]]:
     return found
 
 
-def answers_wrong(requests: list[dict[str, Any]], messages: Optional[list[dict[str, Any]]]) -> str:
+def answers_wrong(requests: list[dict[str, Any]], messages: list[dict[str, Any]] | None) -> str:
     """The fault of the answers: each request must have one answer, in the order of the requests, up to a
     `disconnect`."""
     if messages is None:

@@ -2,7 +2,6 @@
 
 import subprocess
 from pathlib import Path
-from typing import Optional
 
 from netrev.model.program import Printed, printed
 
@@ -15,7 +14,7 @@ Difference = tuple[Printed, Printed]  # the outputs of the program and of the mo
 TIMEOUT = 120
 
 
-def wanted(case: Case, counts: Met) -> Optional[Printed]:
+def wanted(case: Case, counts: Met) -> Printed | None:
     """The model's output, or None if the model doesn't predict it."""
     want = printed(case.program, case.recording, case.script, counts)
     counts.doubted += want is None
@@ -36,7 +35,7 @@ def output_of(netrev: str, case: Case, folder: Path) -> Printed:
     return Printed(ended.returncode, ended.stdout, wrong)
 
 
-def difference(netrev: str, case: Case, folder: Path, counts: Met) -> Optional[Difference]:
+def difference(netrev: str, case: Case, folder: Path, counts: Met) -> Difference | None:
     """The outputs of netrev and the model for a case if they differ, or the fault of a session of nrdb; None if there
     is no difference or fault."""
     if case.program == "nrdb":

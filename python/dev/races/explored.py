@@ -7,7 +7,7 @@ import tempfile
 import time
 from collections import Counter
 from pathlib import Path
-from typing import NamedTuple, Optional
+from typing import NamedTuple
 
 from dev.recorder.suites import DEBIAN
 from netrev.explore.script import script_of
@@ -31,7 +31,7 @@ class ProgramRun(NamedTuple):
 
     status: int
     printed: str
-    recording: Optional[Path]
+    recording: Path | None
 
 
 def recorded(go: Go, command: list[str], folder: Path, processors: int, name: Path) -> ProgramRun:

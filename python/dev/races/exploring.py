@@ -10,8 +10,8 @@ import gc
 import json
 import sys
 import time
+from collections.abc import Iterator
 from pathlib import Path
-from typing import Iterator
 
 from dev.fuzz.generators.injections import Traffic
 from netrev.explore.script import script_of

@@ -8,8 +8,9 @@ import argparse
 import gc
 import random
 import sys
+from collections.abc import Iterator
 from pathlib import Path
-from typing import Iterator, NamedTuple, Optional
+from typing import NamedTuple
 
 from dev.recorder.building import built, source_folder, tests_of
 from dev.recorder.suites import Suite
@@ -63,7 +64,7 @@ def drawn(go: Go, suite: Suite, count: int, out: Path) -> Iterator[Healthy]:
             yield Healthy(suite.package, test, recording)
 
 
-def went_well(go: Go, program: Optional[Path], folder: Path, test: str, name: Path) -> Optional[Recording]:
+def went_well(go: Go, program: Path | None, folder: Path, test: str, name: Path) -> Recording | None:
     """The recording of a test that passed, if it can be used."""
     command = [str(program), "-test.run", f"^{test}$", "-test.short", "-test.timeout=40s"]
     run = recorded(go, command, folder, 4, name)

@@ -10,7 +10,6 @@ import re
 import subprocess
 import sys
 from pathlib import Path
-from typing import Optional
 
 from netrev.recording.recording import Recording
 from netrev_go.go_command.toolchain import Go, RecorderError, find_go, overlay
@@ -36,7 +35,7 @@ def built(go: Go, out: Path, is_recording: bool) -> Path:
     return program
 
 
-def good_recording(go: Go, program: Path, name: str, processors: int) -> Optional[Recording]:
+def good_recording(go: Go, program: Path, name: str, processors: int) -> Recording | None:
     """A recording of a run that succeeded and in which no rule finds anything; None if no run did so."""
     path = program.with_name(f"{name}-{processors}.jsonl")
     for _ in range(TRIES):

@@ -34,9 +34,7 @@ from .fetching import chosen
 from .suites import SAMPLES
 
 HERE = pathlib.Path(__file__).resolve().parents[3]
-OVERLAY = (
-    "from netrev_go.go_command.toolchain import find_go; from netrev_go.release_check import ready; print(ready(find_go()))"
-)
+OVERLAY = "from netrev_go.go_command.toolchain import find_go; from netrev_go.release_check import ready; print(ready(find_go()))"
 
 # The environment for each setting; None means without the overlay.
 WAYS: dict[str, dict[str, str] | None] = {

@@ -33,7 +33,14 @@ from netrev_go.go_command.toolchain import Go, RecorderError, find_go, is_tried
 from netrev_go.log.logfile import NotALogError, read_log
 from netrev_go.steps.analysis import Analysis, check
 from netrev_go.steps.compare import differing
-from netrev_go.steps.recording_builder import NoSocketError, NothingRecordedError, UnconvertibleError, make, write, write_words
+from netrev_go.steps.recording_builder import (
+    NoSocketError,
+    NothingRecordedError,
+    UnconvertibleError,
+    make,
+    write,
+    write_words,
+)
 
 from . import suites
 from .building import built, built_sample, environment, source_folder, tests_of

@@ -3,9 +3,9 @@ changes that haven't arrived."""
 
 import subprocess
 import time
+from collections.abc import Callable, Iterator
 from contextlib import contextmanager
 from threading import Condition, Thread, current_thread
-from typing import Callable, Iterator, Optional
 
 from netrev.messages import session as messages
 from netrev.recording.changes import IncompleteChangesError, RecordedChanges, StepChanges
@@ -26,10 +26,10 @@ class ArrivingChanges(RecordedChanges):
     def __init__(self, program: str, path: str, interrupts: Interrupts, tell: Callable[[str], None]) -> None:
         super().__init__()
         self._words, self._interrupts, self._tell = [program, "changes", path], interrupts, tell
-        self._process: Optional["subprocess.Popen[bytes]"] = None
-        self._reader: Optional[Thread] = None
+        self._process: "subprocess.Popen[bytes] | None" = None
+        self._reader: Thread | None = None
         self._arrival = Condition()
-        self._wanted: Optional[int] = 0  # the position up to which a caller waits for changes; None for all
+        self._wanted: int | None = 0  # the position up to which a caller waits for changes; None for all
         self._failure = ""
 
     def prepare(self) -> None:
@@ -60,7 +60,7 @@ class ArrivingChanges(RecordedChanges):
         thread."""
         return self._reader is not None and self._reader.ident is not None
 
-    def _wait(self, position: Optional[int]) -> None:
+    def _wait(self, position: int | None) -> None:
         if self._is_settled(position) and not self._failure:
             return
         with self._interrupts.shielded():
@@ -111,7 +111,7 @@ class ArrivingChanges(RecordedChanges):
             super()._hold_piece()
         self._interrupts.check()
 
-    def _is_settled(self, position: Optional[int]) -> bool:
+    def _is_settled(self, position: int | None) -> bool:
         return bool(self._failure) or (self.has(position) and not self._fault)
 
     def _read(self, process: "subprocess.Popen[bytes]") -> None:

@@ -1,7 +1,7 @@
 """The beginning of a recording. In a recording of a long-running server, the first steps only lead to the state in
 which the recording begins."""
 
-from typing import Optional, Protocol
+from typing import Protocol
 
 from netrev.messages import session as messages
 from netrev.recording.recording import Recording
@@ -15,7 +15,7 @@ class SessionParts(Protocol):
     """The parts of a session that this module needs."""
 
     netrev: Netrev
-    recording: Optional[Recording]
+    recording: Recording | None
     printer: Printer
     known_position: int
 

@@ -4,7 +4,7 @@ request."""
 import os
 import sys
 import traceback
-from typing import Optional, TypeVar
+from typing import TypeVar
 
 from netrev.errors import NetrevError
 from netrev.messages import session as messages
@@ -21,7 +21,7 @@ class UsageError(NetrevError):
 Part = TypeVar("Part")
 
 
-def needed(part: Optional[Part]) -> Part:
+def needed(part: Part | None) -> Part:
     """Returns a part of a session that exists only with a recording; raises UsageError if a session was joined without a
     recording."""
     if part is None:

@@ -6,9 +6,9 @@ import select
 import socket
 import subprocess
 from collections import deque
+from collections.abc import Callable, Sequence
 from contextlib import suppress
 from dataclasses import dataclass
-from typing import Callable, Optional, Sequence
 
 from netrev.errors import NetrevError
 from netrev.messages import session as messages
@@ -36,7 +36,7 @@ def bytes_of(text: str) -> bytes:
 class NetrevEndedError(NetrevError):
     """Raised when netrev, or the connection to it, has ended. `status` is its exit status, if known."""
 
-    def __init__(self, status: Optional[int] = None):
+    def __init__(self, status: int | None = None):
         super().__init__("netrev ended")
         self.status = status
 
@@ -63,12 +63,12 @@ def is_kept(reply: Reply) -> bool:
 class LineReader:
     """The lines that arrive through a file descriptor."""
 
-    def __init__(self, descriptor: int, silent: Optional[Callable[[], None]] = None):
+    def __init__(self, descriptor: int, silent: Callable[[], None] | None = None):
         self._descriptor, self._silent = descriptor, silent
         self._whole: deque[bytes] = deque()
         self._rest = b""
 
-    def next(self, sent: str) -> Optional[str]:
+    def next(self, sent: str) -> str | None:
         """The next line, without its line feed; None at the end. If a line has no end, raises StrangeReplyError with the line
         that was sent."""
         while not self._whole:
@@ -203,11 +203,11 @@ class Netrev:
         end."""
         raise NotImplementedError
 
-    def _next(self, sent: str) -> Optional[str]:
+    def _next(self, sent: str) -> str | None:
         """netrev's next line in reply to a line; None if netrev has ended."""
         raise NotImplementedError
 
-    def close(self) -> Optional[int]:
+    def close(self) -> int | None:
         """Ends the connection, and returns the exit status if netrev has one. Further calls do nothing."""
         raise NotImplementedError
 
@@ -233,10 +233,10 @@ class Own(Netrev):
             self._commands.write(text)
             self._commands.flush()
 
-    def _next(self, sent: str) -> Optional[str]:
+    def _next(self, sent: str) -> str | None:
         return self._lines.next(sent)
 
-    def close(self) -> Optional[int]:
+    def close(self) -> int | None:
         for stream in (self._commands, self._replies):
             with suppress(OSError):
                 stream.close()
@@ -266,10 +266,10 @@ class Joined(Netrev):
         with suppress(OSError):
             self._socket.sendall(text)
 
-    def _next(self, sent: str) -> Optional[str]:
+    def _next(self, sent: str) -> str | None:
         return self._lines.next(sent)
 
-    def close(self) -> Optional[int]:
+    def close(self) -> int | None:
         with suppress(OSError):
             self._socket.close()
         return None

@@ -5,10 +5,11 @@ import json
 import os
 import sys
 from abc import ABC, abstractmethod
+from collections.abc import Callable, Iterator, Sequence
 from contextlib import contextmanager
 from dataclasses import dataclass
 from enum import Enum
-from typing import Any, Callable, Iterator, Optional, Sequence, TextIO
+from typing import Any, TextIO
 
 from netrev.recording.answers import answer_text
 from netrev.recording.recording import Step
@@ -26,8 +27,8 @@ class SessionPosition:
 
     position: int
     steps: int
-    last: Optional[Step]
-    next: Optional[Step]
+    last: Step | None
+    next: Step | None
 
     def __str__(self) -> str:
         if self.position == 0:
@@ -86,7 +87,7 @@ class Printer(ABC):
     execute escape sequences from a recording or a server. `is_paged` says whether output pauses when the screen is
     full."""
 
-    def __init__(self, out: Optional[TextIO] = None):
+    def __init__(self, out: TextIO | None = None):
         self.out = out if out is not None else sys.stdout
         self.is_paged = True
         self._flushes = True
@@ -137,7 +138,7 @@ class Printer(ABC):
 class TextPrinter(Printer):
     """Events as text, with colours on request."""
 
-    def __init__(self, out: Optional[TextIO] = None, is_coloured: bool = False):
+    def __init__(self, out: TextIO | None = None, is_coloured: bool = False):
         super().__init__(out)
         self.is_coloured = is_coloured
 

@@ -2,7 +2,8 @@
 stay as they are. Since an interrupted query may leave unread replies, the scout then ends that netrev, and the next
 query starts another. If netrev ended by itself, the scout repeats the query once."""
 
-from typing import Callable, Optional, Sequence, TypeVar
+from collections.abc import Callable, Sequence
+from typing import TypeVar
 
 from netrev.errors import NetrevError
 from netrev.messages import session as messages
@@ -25,11 +26,11 @@ class Scout:
     nearly full. A session that never moves may pass its own netrev as `lent`, for the first queries. The session,
     not the scout, stops that netrev."""
 
-    def __init__(self, opened: Callable[[], Netrev], lent: Optional[Netrev] = None):
+    def __init__(self, opened: Callable[[], Netrev], lent: Netrev | None = None):
         self._opened = opened
         self._netrev = self._lent = lent
         self._placed = 0
-        self._stands: Optional[int] = None  # netrev's position, if known
+        self._stands: int | None = None  # netrev's position, if known
 
     def prepare(self) -> None:
         """Starts netrev unless it is already running. Doesn't wait until netrev has read the recording."""

@@ -2,7 +2,8 @@
 line, so that nrdb doesn't mistake it for the reply to another line. A reply in another form isn't netrev's."""
 
 import re
-from typing import Callable, Match, NamedTuple
+from collections.abc import Callable
+from typing import Match, NamedTuple
 
 from netrev.errors import NetrevError
 from netrev.messages import session as messages

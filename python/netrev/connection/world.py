@@ -2,8 +2,8 @@
 and the socket of each."""
 
 import re
+from collections.abc import Iterable, Sequence
 from functools import lru_cache
-from typing import Iterable, Optional, Sequence
 
 from netrev.recording.recording import Recording
 from netrev.text.vocabulary import Of
@@ -59,7 +59,7 @@ class PositionValues:
 class Opened:
     """The descriptors that are open after the openings and closings so far."""
 
-    def __init__(self, earlier: Optional["Opened"] = None) -> None:
+    def __init__(self, earlier: "Opened | None" = None) -> None:
         self.count: int = earlier.count if earlier else 0
         self.free: list[int] = earlier.free.copy() if earlier else []
         self.now: dict[int, int] = earlier.now.copy() if earlier else {}

@@ -2,8 +2,9 @@
 
 import sys
 import time
+from collections.abc import Callable
 from pathlib import Path
-from typing import Callable, NamedTuple
+from typing import NamedTuple
 
 from netrev.findings.suspects.ranking import suspects_of
 from netrev.messages import searches as messages
@@ -16,12 +17,12 @@ from netrev.system.interrupts import SearchInterruptedError
 from netrev.text.vocabulary import number_of
 
 from .failures import explaining_steps, watched
-from .search import Search, ScheduleFinding
 from .hangs import moved_by
 from .numbered_state import ImpossibleScheduleError
 from .script import script_of
+from .search import ScheduleFinding, Search
 from .sentences import FindingSentences, summary
-from .workers import Share, run_all, processors
+from .workers import Share, processors, run_all
 
 FAILURES = "failures"
 MOST, GREATEST = 3_000, 1_000_000

@@ -5,7 +5,7 @@ where the goroutine continues."""
 from bisect import bisect_right
 from dataclasses import dataclass, field
 from functools import cached_property
-from typing import Any, NamedTuple, Optional
+from typing import Any, NamedTuple
 
 from netrev.errors import NetrevError
 from netrev.run.flow import NAMES, Consequence, OperationType, came, first_step, step_by_status
@@ -51,7 +51,7 @@ class Operation:
     kinds: list[str] = field(default_factory=list)
     moved: list[int] = field(default_factory=list)  # for each attempt to write, the number of bytes that it moved
     on_failure: int = 0
-    cause: Optional[int] = None  # for a wait without a read or write after it, the step of the event that ended it
+    cause: int | None = None  # for a wait without a read or write after it, the step of the event that ended it
     is_brief: bool = False  # whether the readiness for such a wait was already set
     is_raw: bool = False  # whether a function of the program, passed to RawConn, decides if the operation waits
     ends_unread: bool = False  # whether no step shows a try after its last wait

@@ -2,7 +2,7 @@
 them performs its recorded actions in their recorded order."""
 
 from collections import defaultdict
-from typing import Iterator, Optional
+from collections.abc import Iterator
 
 from netrev.text.contents import Step
 
@@ -59,7 +59,7 @@ class Environment:
             if actions := self._actions(actor):
                 yield actions[0].due, actor
 
-    def next(self, actor: Actor) -> Optional[Action]:
+    def next(self, actor: Actor) -> Action | None:
         """The next action of an actor."""
         actions, at = self._actions(actor), self.performed[actor]
         return actions[at] if at < len(actions) else None
@@ -87,7 +87,7 @@ class Environment:
 
     # ---- steps
 
-    def steps_of(self, action: Action, state: NumberedState) -> Optional[list[Step]]:
+    def steps_of(self, action: Action, state: NumberedState) -> list[Step] | None:
         """The steps of an action that is due. The result is empty if the action has no place in this schedule, and None
         if the action must wait. Raises MissingObjectError if the action's object doesn't exist yet."""
         kind, arguments = action.event.kind, action.event.arguments
@@ -126,7 +126,7 @@ class Environment:
         offset = tag - (self.script.ordinals[use] + 1)
         return [("pollevent", state.descriptors[use], max(state.fdseqs[use] + offset, 0), mode, error)]
 
-    def _transfer(self, action: Action, state: NumberedState) -> Optional[list[Step]]:
+    def _transfer(self, action: Action, state: NumberedState) -> list[Step] | None:
         """The step by which bytes come or go, or by which the peer closes."""
         kind, (recorded, *value) = action.event.kind, action.event.arguments
         s = state.sockets[recorded]
@@ -139,7 +139,7 @@ class Environment:
             return self._try_later(action)
         return [(kind, s, *value)]
 
-    def _try_later(self, action: Action) -> Optional[list[Step]]:
+    def _try_later(self, action: Action) -> list[Step] | None:
         """Lets an action wait for room or bytes; after some tries, drops the action."""
         number = action.event.number
         self.tries[number] = self.tries.get(number, 0) + 1

@@ -2,8 +2,9 @@
 passed or a close came first. What the goroutine does afterwards is unknown, so the schedule ends with that call."""
 
 from bisect import bisect_left
+from collections.abc import Iterator
 from enum import Enum
-from typing import Any, Iterator, NamedTuple, Optional
+from typing import Any, NamedTuple
 
 from netrev.run.flow import OperationType
 
@@ -54,7 +55,7 @@ class Reason(NamedTuple):
     served: int
 
 
-def fault_of(step: AnsweredStep) -> Optional[Why]:
+def fault_of(step: AnsweredStep) -> Why | None:
     """Why a call fails at this step."""
     return FAULTS.get(step.step[0], {}).get(step.answer)
 
@@ -136,7 +137,7 @@ def ends_of(script: Script) -> dict[tuple[int, str], set[int]]:
     return found
 
 
-def reason_of(script: Script, failed: Failed, steps: list[AnsweredStep]) -> Optional[Reason]:
+def reason_of(script: Script, failed: Failed, steps: list[AnsweredStep]) -> Reason | None:
     """The reason why a call failed in a schedule. The result is None if no step explains the failure, or if the
     failure isn't worth reporting because a future deadline was set for this call alone. Such a deadline would pass in
     the recorded order too if the bytes came late."""

@@ -1,6 +1,6 @@
 """Goroutines' scripts: divides the steps of each goroutine into operations, by the control flow of Go's calls."""
 
-from typing import Any, Optional
+from typing import Any
 
 from netrev.reduce.events import Event, Events
 from netrev.run.flow import ENDS, LAST, SORTS, TRIES, Consequence, OperationType, came
@@ -27,7 +27,7 @@ class GoroutineScript:
         self.answer = event.answer
 
     @property
-    def last(self) -> Optional[Operation]:
+    def last(self) -> Operation | None:
         return self.operations[-1] if self.operations else None
 
     def _begin(self, event: Event) -> Operation:
@@ -97,7 +97,7 @@ class GoroutineScript:
                 self._suppose_try(s, use, side)
             self._suppose(OperationType.UNLOCK, s, -1, side)
 
-    def _first_use(self, socket: int) -> Optional[int]:
+    def _first_use(self, socket: int) -> int | None:
         return next((at for at, use in enumerate(self.events.uses) if use.socket == socket), None)
 
     def _incref(self, event: Event) -> None:

@@ -2,7 +2,6 @@
 schedule must have set that deadline too. If the goroutine that sets the deadline hangs or waits instead, the call hangs
 for another reason."""
 
-from typing import Optional
 
 from netrev.machine.machine import SIDES, Status, World
 from netrev.run.flow import OperationType
@@ -28,7 +27,7 @@ def hangs(script: Script, g: int, place: ScriptPlace, world: World, steps: list[
     return ended is not None and any(step.number == ended for step in steps)
 
 
-def ended_by(script: Script, g: int, place: ScriptPlace) -> Optional[int]:
+def ended_by(script: Script, g: int, place: ScriptPlace) -> int | None:
     """The step that set the deadline which ended a goroutine's call in the recording; None if the call ended in another
     way."""
     operations = script.goroutines[g]

@@ -1,7 +1,7 @@
 """The machine's state in a schedule, and the numbers that the recording's objects have there. Two schedules may create
 their sockets and descriptors in different orders, so states are compared by the recording's objects."""
 
-from typing import NamedTuple, Optional
+from typing import NamedTuple
 
 from netrev.errors import NetrevError
 from netrev.machine.in_place import STATE, Machine
@@ -30,7 +30,7 @@ class NumberedState:
         self.descriptors: dict[int, int] = {}
         self.fdseqs: dict[int, int] = {}
         self.open_uses: dict[int, int] = {}  # for each open socket, the use of its descriptor
-        self._objects: Optional[tuple[dict[int, int], dict[int, int]]] = None
+        self._objects: tuple[dict[int, int], dict[int, int]] | None = None
 
     def copy(self) -> "NumberedState":
         copy = object.__new__(NumberedState)

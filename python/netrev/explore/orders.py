@@ -2,7 +2,8 @@
 that the program orders them. The network's reaction to a step must follow the step. The orders are kept between
 operations: one operation begins after another operation has ended."""
 
-from typing import NamedTuple, Optional, Sequence
+from collections.abc import Sequence
+from typing import NamedTuple
 
 from .control_flow import Operation, ScriptPlace
 
@@ -28,7 +29,7 @@ class Trigger(NamedTuple):
     at: int
 
 
-def orders_of(goroutines: list[list[Operation]], pairs: Optional[Pairs]) -> Optional[list[list[Order]]]:
+def orders_of(goroutines: list[list[Operation]], pairs: Pairs | None) -> list[list[Order]] | None:
     """For each goroutine, the operations of other goroutines that must precede its own operations, in order; None if
     the recording doesn't have the program's order."""
     if pairs is None:
@@ -61,7 +62,7 @@ def triggers_of(goroutines: list[list[Operation]], kinds: Sequence[str]) -> list
 class OrderProgress:
     """How many orders of each goroutine, and how many triggers, a run has satisfied. `places` is the run's own list."""
 
-    def __init__(self, orders: Optional[list[list[Order]]], triggers: list[Trigger], places: list[ScriptPlace]) -> None:
+    def __init__(self, orders: list[list[Order]] | None, triggers: list[Trigger], places: list[ScriptPlace]) -> None:
         self.orders, self.triggers, self.places = orders, triggers, places
         self._satisfied = [0] * len(places)
         self._triggered = 0
@@ -71,7 +72,7 @@ class OrderProgress:
         copy._satisfied, copy._triggered = list(self._satisfied), self._triggered
         return copy
 
-    def predecessor(self, g: int) -> Optional[int]:
+    def predecessor(self, g: int) -> int | None:
         """The goroutine that must continue, by the program's order, before goroutine `g` makes its next step; None if
         no goroutine must."""
         if self.orders is None:
@@ -86,7 +87,7 @@ class OrderProgress:
             self._satisfied[g] = at + 1
         return None
 
-    def trigger_goroutine(self, number: int) -> Optional[int]:
+    def trigger_goroutine(self, number: int) -> int | None:
         """The goroutine that must make a step before the network's action with this number, because the action may be a
         reaction to that step. None if the action needn't wait for a goroutine."""
         while self._triggered < len(self.triggers):

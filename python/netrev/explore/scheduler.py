@@ -4,7 +4,7 @@ step while it sleeps, while the program's order lets another goroutine continue 
 exist."""
 
 from heapq import heapify, heappop, heappush
-from typing import NamedTuple, Optional
+from typing import NamedTuple
 
 from netrev.reduce.events import Event
 from netrev.run.flow import ASLEEP, OperationType
@@ -56,7 +56,7 @@ class Scheduler:
         self.diverged: set[int] = set()  # the goroutines whose last steps the recording doesn't have
         # whether a step got an answer in NEWS that differs from the recorded answer, or a watched call failed
         self.has_news = False
-        self.failed: Optional[Failed] = None  # the first watched call that failed
+        self.failed: Failed | None = None  # the first watched call that failed
         self.is_over = False  # whether the failed call has ended
         self.paused: dict[int, float] = {}  # the goroutines that pause, each with the time at which its pause ends
         self.asleep: set[int] = set()

@@ -4,8 +4,9 @@ seed, are tried together."""
 
 import random
 from bisect import bisect_left, bisect_right
+from collections.abc import Iterator
 from itertools import islice
-from typing import Iterator, NamedTuple
+from typing import NamedTuple
 
 from netrev.reduce.units import SIDE_OF as SIDE_OF_NETWORK
 from netrev.run.flow import OperationType

@@ -1,8 +1,9 @@
 """A script: what each goroutine, the network and the clock did in a recording, without the order between them. If the
 machine's answer differs from the recorded answer, a goroutine may continue with an operation other than the next."""
 
+from collections.abc import Iterator
 from dataclasses import dataclass, field, replace
-from typing import Any, Iterator, NamedTuple, Optional
+from typing import Any, NamedTuple
 
 from netrev.recording.recording import Recording
 from netrev.recording.where import SourceLines
@@ -27,7 +28,7 @@ class Action(NamedTuple):
 
     due: float
     event: Event
-    timer: Optional[Timer] = None
+    timer: Timer | None = None
 
 
 @dataclass
@@ -47,7 +48,7 @@ class Script:
     triggers: list[Trigger]
     answers: list[tuple[Any, ...]]
     # for each goroutine, the orders that the recorder saw the program impose; None if the recording has no orders
-    orders: Optional[list[list[Order]]] = None
+    orders: list[list[Order]] | None = None
     # the calls that succeeded and may fail: the key is a goroutine and an operation of a call, and the value is the
     # call's first operation
     watched: dict[tuple[int, int], int] = field(default_factory=dict)
@@ -159,7 +160,7 @@ def _tries(script: Script) -> dict[tuple[int, str], Tries]:
     return {of: Tries(sorted(tries.all), sorted(tries.in_vain)) for of, tries in found.items()}
 
 
-def _due(action: Action, events: list[Event], tries: Optional[Tries]) -> float:
+def _due(action: Action, events: list[Event], tries: Tries | None) -> float:
     """The due time of an arrival. If a try comes before the next event, the due time is just before the first event
     since the last failed try."""
     if tries is None:

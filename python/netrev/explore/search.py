@@ -3,12 +3,13 @@ and place."""
 
 from bisect import bisect_left, bisect_right
 from collections import Counter
+from collections.abc import Callable, Iterator
 from dataclasses import replace
-from typing import Any, Callable, Iterator, NamedTuple, Optional
+from typing import Any, NamedTuple
 
-from netrev.findings.suspects.suspect import Suspect
-from netrev.findings.suspects.rule_loader import LEFT_BEHIND, LOST_WAKE_UP, TAKEN_BACK, WRITE_AFTER_SHUT
 from netrev.findings.suspects.ranking import suspects_of
+from netrev.findings.suspects.rule_loader import LEFT_BEHIND, LOST_WAKE_UP, TAKEN_BACK, WRITE_AFTER_SHUT
+from netrev.findings.suspects.suspect import Suspect
 from netrev.machine.machine import Status, World
 from netrev.run.changes import PlayedSteps
 from netrev.text.contents import Answer, Limits, Step
@@ -38,7 +39,7 @@ class Run(NamedTuple):
     places: list[ScriptPlace]
     sockets: dict[int, int]  # the numbers of sockets, keyed by their numbers in the recording
     has_news: bool
-    failed: Optional[Failed] = None
+    failed: Failed | None = None
 
     def pairs(self) -> list[tuple[Step, Answer]]:
         return [(step.step, step.answer) for step in self.steps]
@@ -48,11 +49,11 @@ class ScheduleFinding(NamedTuple):
     """A schedule's result: a suspect, a goroutine that hangs, or a call that fails."""
 
     key: Key
-    suspect: Optional[Suspect]
+    suspect: Suspect | None
     hangs: int  # the goroutine that hangs, or -1
     schedule: Schedule
     run: Run
-    reason: Optional[Reason] = None  # for a call that fails
+    reason: Reason | None = None  # for a call that fails
 
 
 class Search:
@@ -140,7 +141,7 @@ class Search:
             return []
         return list(self._findings(schedule, run)) if run else []
 
-    def run_schedule(self, delays: tuple[Delay, ...]) -> Optional[Run]:
+    def run_schedule(self, delays: tuple[Delay, ...]) -> Run | None:
         """Runs a schedule from the last copy before its first delay; returns None if the schedule returns to the
         recorded run. Without the two comparisons with the recorded run, long recordings take twice as long or more."""
         first, last = min(delay.before for delay in delays), max(delay.until for delay in delays)

@@ -1,6 +1,5 @@
 """Findings as text, in terms of calls."""
 
-from typing import Optional
 
 from netrev.findings.suspects.rule_loader import LOST_WAKE_UP
 from netrev.recording.call import Call
@@ -9,10 +8,10 @@ from netrev.run.index import RunIndex
 from netrev.text.plurals import counted
 
 from .failures import FAILS, Failed, Reason, Why
-from .search import Search, ScheduleFinding
 from .hangs import moved_by
 from .schedules import Delay
 from .script import Script
+from .search import ScheduleFinding, Search
 
 UNLESS = "possible, unless your program orders these calls by what a recording doesn't show: "
 UNKNOWN = "a channel, a mutex, a condition"
@@ -59,7 +58,7 @@ class FindingSentences:
         g = step.argument("g")
         return step.kind, -1 if g is None else g
 
-    def call_of(self, g: int, number: int) -> Optional[Call]:
+    def call_of(self, g: int, number: int) -> Call | None:
         """The innermost call of a goroutine that includes a step."""
         return self.run.call_of(number, g)
 

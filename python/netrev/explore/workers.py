@@ -6,16 +6,17 @@ import pickle
 import subprocess
 import sys
 import time
+from collections.abc import Callable, Iterator
 from contextlib import ExitStack, suppress
 from itertools import islice
 from selectors import EVENT_READ, DefaultSelector
-from typing import IO, Callable, Iterator, NamedTuple
+from typing import IO, NamedTuple
 
 from netrev.recording.where import SourceLines
 
-from .search import Search, Key
 from .schedules import Schedule, schedules
 from .script import Script
+from .search import Key, Search
 
 # several processes are used only if all schedules together have at least this many steps; each schedule is assumed to
 # have as many steps as the recording

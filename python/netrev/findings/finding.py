@@ -1,9 +1,10 @@
 """A finding about a recording, such as a failed call, a hang or a suspect. Printers turn findings into text, JSON and
 annotations."""
 
+from collections.abc import Iterable, Sequence
 from dataclasses import dataclass
 from enum import Enum
-from typing import Iterable, NamedTuple, Optional, Sequence
+from typing import NamedTuple
 
 from netrev.recording.call import Call
 from netrev.recording.waits import Name
@@ -34,9 +35,9 @@ class Place(NamedTuple):
 class Sentence(str):
     """A sentence, and the first line of the program that it names, if any."""
 
-    place: Optional[Place]
+    place: Place | None
 
-    def __new__(cls, text: str, place: Optional[Place] = None) -> "Sentence":
+    def __new__(cls, text: str, place: Place | None = None) -> "Sentence":
         sentence = super().__new__(cls, text)
         sentence.place = place
         return sentence
@@ -50,7 +51,7 @@ class Finding:
 
     kind: Kind
     sentences: tuple[Sentence, ...]
-    place: Optional[Place] = None
+    place: Place | None = None
     steps: tuple[int, ...] = ()
     goroutines: tuple[Name, ...] = ()
     evidence: tuple[str, ...] = ()
@@ -80,7 +81,7 @@ def with_others(cause: Cause, others: int) -> Cause:
     return cause._replace(says=[*cause.says, f"{others} more like it."]) if others else cause
 
 
-def place_of(stack: Stack) -> Optional[Place]:
+def place_of(stack: Stack) -> Place | None:
     """The program's line in a stack, if known."""
     own = stack.own()
     return Place(own[0].file, own[0].line) if own else None

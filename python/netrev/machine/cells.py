@@ -1,6 +1,7 @@
 """The output of `print` and `dump` for a state, as docs/reference/COMMANDS.md defines it."""
 
-from typing import Any, Callable, Optional
+from collections.abc import Callable
+from typing import Any
 
 from .machine import Word, World, at
 from .polling import summary
@@ -41,7 +42,7 @@ def word(held: Word) -> str:
     return f"g{held}" if isinstance(held, int) else held
 
 
-def value(world: World, name: str, number: Optional[int] = None) -> object:
+def value(world: World, name: str, number: int | None = None) -> object:
     """The value of a cell, as it is printed."""
     if name in SHOWS_ALL:
         return SHOWS_ALL[name](world)

@@ -12,10 +12,11 @@ from __future__ import annotations
 import json
 import subprocess
 from bisect import bisect_left, bisect_right
+from collections.abc import Mapping, Sequence
 from dataclasses import dataclass
 from functools import lru_cache
 from pathlib import Path
-from typing import Any, Mapping, NamedTuple, Optional, Sequence
+from typing import Any, NamedTuple
 
 from netrev.text.commands import OF_NETREV, SHORT
 from netrev.text.vocabulary import DUMPS, MOST_LINE, MOST_STANDING, break_of, cell_of, number_of
@@ -56,7 +57,7 @@ Answered = tuple[SharedState, Reply]
 COMMANDS = {"step", "seek", "turn", "mark", "delete", "checkpoint", "restart", "forget"}
 
 
-def read_line(line: bytes) -> Optional[Request]:
+def read_line(line: bytes) -> Request | None:
     """The meaning of a line of bytes without its newline; None for a blank line."""
     if len(line) > MOST_LINE:
         return Request("fault", TOO_LONG)
@@ -70,7 +71,7 @@ def read_line(line: bytes) -> Optional[Request]:
     return read_words(first, words[1:]) or Request("fault", BAD)
 
 
-def read_words(first: str, rest: list[str]) -> Optional[Request]:
+def read_words(first: str, rest: list[str]) -> Request | None:
     """The meaning of a line's words if the first word is known; None if the other words are wrong."""
     number = number_of(rest[0]) if len(rest) == 1 else None
     match first:
@@ -106,7 +107,7 @@ def read_words(first: str, rest: list[str]) -> Optional[Request]:
     return None
 
 
-def is_command(request: Optional[Request]) -> bool:
+def is_command(request: Request | None) -> bool:
     """Whether a line is a command, which takes a place in the journal."""
     return request is not None and request.sort in COMMANDS
 
@@ -115,7 +116,7 @@ def is_command(request: Optional[Request]) -> bool:
 class DebuggedRecording:
     """A recording, and the results of some queries at each of its positions. A whole script uses it."""
 
-    path: Optional[Path]
+    path: Path | None
     kinds: tuple[str, ...]
     shown: Mapping[str, Any]
 
@@ -156,7 +157,7 @@ class DebuggedRecording:
         return tuple(at for at, kind in enumerate(self.kinds) if kind == what)
 
     @lru_cache(maxsize=200_000)
-    def nearest(self, marks: Marks, position: int, reverse: bool) -> Optional[tuple[int, list[int]]]:
+    def nearest(self, marks: Marks, position: int, reverse: bool) -> tuple[int, list[int]] | None:
         """The nearest position in this direction at which marks hit, and these marks; None if no mark hits."""
         found = [hit for _, mark in marks if (hit := self.nearest_of(mark, position, reverse)) is not None]
         if not found:
@@ -164,7 +165,7 @@ class DebuggedRecording:
         hit = max(found) if reverse else min(found)
         return hit, [number for number, mark in marks if self.is_hit(mark, hit)]
 
-    def nearest_of(self, mark: str, position: int, reverse: bool) -> Optional[int]:
+    def nearest_of(self, mark: str, position: int, reverse: bool) -> int | None:
         """The nearest position in that direction at which a mark hits, or None."""
         hits = self.hits_of(mark)
         if reverse:

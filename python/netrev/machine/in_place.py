@@ -4,7 +4,7 @@ refused step changes nothing, the last steps can be undone, and callers can ask 
 from __future__ import annotations
 
 from collections import deque
-from typing import Any, NamedTuple, Optional, TypeVar
+from typing import Any, NamedTuple, TypeVar
 
 from netrev.text.contents import Answer, Limits, Step
 
@@ -34,7 +34,7 @@ class Machine:
 
     __slots__ = (*STATE, "steps", "_changes", "_seats")
 
-    def __init__(self, limits: Limits, remembers: Optional[int] = 1) -> None:
+    def __init__(self, limits: Limits, remembers: int | None = 1) -> None:
         self.limits = limits
         self.clock, self.waiters, self.next_number = 0, 0, 1
         self.goroutines: list[Status] = [IDLE]

@@ -2,7 +2,7 @@
 for the model, in each state that a recording reaches: if a state breaks an invariant, the pages contradict each other,
 or the model is wrong. `breaches` names the broken invariants."""
 
-from typing import Iterator
+from collections.abc import Iterator
 
 from netrev.text.contents import GREATEST_TIME
 

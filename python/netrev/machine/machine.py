@@ -6,13 +6,13 @@ reading first.
 
 from __future__ import annotations
 
-from typing import Any, NamedTuple, TypeVar, Union
+from typing import Any, NamedTuple, TypeVar
 
 from netrev.errors import NetrevError
 from netrev.text.contents import Answer, Limits
 
 Status = tuple[Any, ...]  # a name, numbers and a side
-Word = Union[str, int]  # "nil", "ready", "wait" or a goroutine's number
+Word = str | int  # "nil", "ready", "wait" or a goroutine's number
 Item = TypeVar("Item")
 
 SIDES = "rw"

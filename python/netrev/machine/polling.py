@@ -1,7 +1,7 @@
 """The parts of steps that change a descriptor: the check, unblocking, deadlines with their timers, events and
 closing."""
 
-from typing import Optional, Sequence
+from collections.abc import Sequence
 
 from netrev.text.contents import GREATEST_TIME
 
@@ -86,7 +86,7 @@ def is_combo(desc: Desc) -> bool:
     return are_both(desc.deadlines)
 
 
-def followed(is_running: bool, place: int, before: Sequence[int], now: Sequence[int]) -> Optional[bool]:
+def followed(is_running: bool, place: int, before: Sequence[int], now: Sequence[int]) -> bool | None:
     """Whether the timer of a side is armed again after a change of the deadlines; None if it stays as it is."""
     both = are_both(now)
     is_wanted = now[place] > 0 and not (both and place)  # (the timer for reading serves both)
@@ -142,7 +142,7 @@ def with_timer(world: World, d: int, side: str, combo: bool) -> World:
     return world._replace(timers=tuple(sorted((*world.timers, timer))), next_number=raised(world.next_number))
 
 
-def fired(world: World, firing: Timer) -> Optional[World]:
+def fired(world: World, firing: Timer) -> World | None:
     """Runs a firing; returns None if it is stale. A firing has the sequence of the first side that it covers."""
     d, own = firing.desc, at(firing.covers[0])
     if firing.sequence != world.descs[d].sequences[own]:

@@ -1,6 +1,6 @@
 """Replays a parsed recording, step by step."""
 
-from typing import Callable, Iterator, Optional
+from collections.abc import Callable, Iterator
 
 from netrev.text.contents import Answer, Contents, Step
 from netrev.text.parser import FaultError
@@ -31,7 +31,7 @@ def answers(recording: Contents, observer: Observer, make: Callable[[Step], Answ
         yield answer
 
 
-def positions(recording: Contents, observer: Observer) -> Iterator[tuple[World, Optional[Answer]]]:
+def positions(recording: Contents, observer: Observer) -> Iterator[tuple[World, Answer | None]]:
     """The state of each position in order, with the answer that led to it; raises the first Fault."""
     world = World(recording.limits)
     yield world, None

@@ -4,7 +4,7 @@ with the first reason, in the order of the table in docs/internals/MACHINE.md.
 Answers are the words of docs/internals/MACHINE.md in lower case; `number`, `code`, `got` and `put` come with their number.
 """
 
-from typing import Callable
+from collections.abc import Callable
 
 from netrev.text.contents import Step
 

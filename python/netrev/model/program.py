@@ -1,13 +1,15 @@
 """The model of netrev's program: the output of `run`, `check`, `upgrade`, `changes` and `suspects` for the bytes of a recording."""
 
-from typing import Callable, Iterable, NamedTuple, Optional
+from collections.abc import Callable, Iterable
+from typing import NamedTuple
 
 from netrev.errors import NetrevError
 from netrev.machine.invariants import breaches
 from netrev.machine.machine import World
 from netrev.machine.observer import Observer
 from netrev.machine.replay import positions
-from netrev.text.contents import Answer, Contents as Text
+from netrev.text.contents import Answer
+from netrev.text.contents import Contents as Text
 from netrev.text.jsontext import DoubtfulNumberError
 from netrev.text.parser import FaultError, read_text
 from netrev.text.writer import write_plain
@@ -55,7 +57,7 @@ def replay(
 
 
 def held_together(
-    replayed: Iterable[tuple[World, Optional[Answer]]], keeps_worlds: bool, keeps_answers: bool
+    replayed: Iterable[tuple[World, Answer | None]], keeps_worlds: bool, keeps_answers: bool
 ) -> tuple[list[World], list[Answer]]:
     """The states of all positions, and the answers. Checks that the first states are well formed."""
     worlds, answers = [], []
@@ -69,7 +71,7 @@ def held_together(
     return worlds, answers
 
 
-def printed(program: str, recording: bytes, script: bytes, observer: Observer) -> Optional[Printed]:
+def printed(program: str, recording: bytes, script: bytes, observer: Observer) -> Printed | None:
     """The output of `netrev SUBCOMMAND` over this recording, for `run` with this script; None if the model can't decide."""
     try:
         if program in LISTS:

@@ -1,6 +1,6 @@
 """A model of a session of `netrev run`: the debugger of debugger.py over the states of the machine."""
 
-from typing import Optional, Sequence
+from collections.abc import Sequence
 
 from netrev.machine.cells import look
 from netrev.machine.debugger import FULL, DebuggedRecording, Reply, SharedState, is_command, read_line
@@ -47,7 +47,7 @@ class ModelSession:
         self.state, self.placed, self.has_ended = SharedState(), 0, False
         self._observer = observer
 
-    def answer(self, line: bytes) -> Optional[Reply]:
+    def answer(self, line: bytes) -> Reply | None:
         """The reply to a line; None for a blank line."""
         request = read_line(line)
         if request is None:

@@ -12,7 +12,8 @@ meant for short recordings.
 Each line has one finding. Findings about deadlines come step by step; the other findings are about the last position.
 """
 
-from typing import Iterator, NamedTuple, Optional, Sequence
+from collections.abc import Iterator, Sequence
+from typing import NamedTuple
 
 from netrev.machine.machine import GONE, SIDES, World, at
 from netrev.machine.observer import Observer
@@ -109,7 +110,7 @@ def timeouts(replayed: ReplayedStates, n: int) -> Iterator[str]:
         yield f"at {n} {TIMEOUT} gor {g} {setting(replayed, n, d, side)}"
 
 
-def checked(replayed: ReplayedStates, n: int) -> Optional[tuple[int, int, str]]:
+def checked(replayed: ReplayedStates, n: int) -> tuple[int, int, str] | None:
     """The goroutine, the descriptor and the side of step n, if it is a reset, the beginning of a wait, or the last
     check of a wait."""
     kind, *arguments = replayed.step(n)
@@ -133,7 +134,7 @@ def taken_back(replayed: ReplayedStates, n: int) -> Iterator[str]:
                 yield f"at {n} {TAKEN_BACK} gor {g} {setting(replayed, n, d, side)}"
 
 
-def woken(replayed: ReplayedStates, until: int, d: int, side: str) -> Optional[int]:
+def woken(replayed: ReplayedStates, until: int, d: int, side: str) -> int | None:
     """The goroutine that was parked at a side when the side's deadline last passed before a step. None if, between the
     two, the deadline was set, the descriptor was opened, or the goroutine checked."""
     passed = [n for n in replayed.between(0, until) if (d, side) in passings(replayed, n)]
@@ -195,7 +196,7 @@ def lost_wake_ups(replayed: ReplayedStates) -> Iterator[str]:
                 yield f"at {replayed.end} {LOST_WAKE_UP} {gor} taken {taken} by {replayed.step(taken)[1]}"
 
 
-def owed(replayed: ReplayedStates, d: int, side: str) -> Optional[int]:
+def owed(replayed: ReplayedStates, d: int, side: str) -> int | None:
     """The last event of a side. None if, after the event, the descriptor was opened or a try at that side was answered
     `again`."""
     events = [n for n in range(1, replayed.end + 1) if is_event(replayed, n, d, side)]

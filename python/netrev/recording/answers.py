@@ -2,12 +2,11 @@
 program's answer may differ from the machine's."""
 
 import json
-from typing import Any, Optional
+from typing import Any
 
 from netrev.messages import texts as messages
 from netrev.text.plurals import counted
 from netrev.text.vocabulary import COUNTED_ANSWERS, KINDS
-
 
 OF_A_CHECK = (
     "nothing prevented it",
@@ -94,7 +93,7 @@ def spelled(kind: str) -> str:
     return names[0] if len(names) == 1 else f"{', '.join(names[:-1])} or {names[-1]}"
 
 
-def meaning(kind: str, recorded: Any) -> Optional[str]:
+def meaning(kind: str, recorded: Any) -> str | None:
     """What a difference between the program's answer and the machine's answer means."""
     if name_of(recorded) not in KINDS[kind].answers:
         return messages.ONLY_ANSWERS.format(kind=kind, answers=spelled(kind))

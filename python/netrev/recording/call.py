@@ -2,7 +2,6 @@
 
 from dataclasses import dataclass
 from enum import Enum
-from typing import Optional
 
 from netrev.text.plurals import counted
 
@@ -42,7 +41,7 @@ class Call:
     last: int = 0
     waited: int = 0  # the number of steps during which the call's goroutine slept
     slept: int = 0  # the nanoseconds that the clock advanced during these steps
-    moved: Optional[int] = None  # the number of bytes that it moved, if it tried to read or write any
+    moved: int | None = None  # the number of bytes that it moved, if it tried to read or write any
     outcome: Outcome = Outcome.DONE
     side: str = ""  # the side of the lock that it holds
     is_asking: bool = False  # whether it waits for a lock that another goroutine holds

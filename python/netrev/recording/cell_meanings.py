@@ -1,8 +1,9 @@
 """The meanings of cells' values as text: lock words, summaries, statuses, wait words and deadlines."""
 
 import json
+from collections.abc import Mapping
 from dataclasses import dataclass
-from typing import Any, Mapping
+from typing import Any
 
 from netrev.text.plurals import counted
 from netrev.text.vocabulary import CELLS, Of

@@ -5,9 +5,10 @@ value is stored once, because a million steps change several million cells."""
 import re
 from array import array
 from bisect import bisect_left, bisect_right
+from collections.abc import Callable, Iterable, Iterator, Sequence
 from itertools import groupby
 from operator import itemgetter
-from typing import Callable, Iterable, Iterator, NamedTuple, Optional, Sequence
+from typing import NamedTuple
 
 from netrev.errors import NetrevError
 from netrev.messages import session as messages
@@ -94,7 +95,7 @@ class ChangedLines:
                 break
         return found
 
-    def changes_of(self, cell: str, until: Optional[int] = None) -> Iterator[tuple[int, str]]:
+    def changes_of(self, cell: str, until: int | None = None) -> Iterator[tuple[int, str]]:
         """The steps that changed a cell, in ascending order, with the new values. If `until` is given, the result has
         only steps up to that position."""
         named = b" %s = " % cell.encode()
@@ -238,14 +239,14 @@ class RecordedChanges:
         """The values of cells at a position."""
         return [self.value(cell, position) for cell in cells]
 
-    def steps_of(self, cell: str, until: Optional[int] = None) -> "array[int]":
+    def steps_of(self, cell: str, until: int | None = None) -> "array[int]":
         """The steps that changed a cell, in ascending order. If `until` is given, the result has only steps up to that
         position."""
         return array("I", (step for step, _ in self.changes_of(cell, until)))
 
     def nearest(
         self, cells: Sequence[str], are_wanted: Callable[[list[str]], bool], position: int, backwards: bool
-    ) -> Optional[int]:
+    ) -> int | None:
         """The nearest later position just after a change of one of the cells; with `backwards`, the nearest earlier one.
         Positions are skipped unless `are_wanted` accepts the cells' values there. The result is None if no position is
         left."""
@@ -253,7 +254,7 @@ class RecordedChanges:
         ways = reversed(steps[: bisect_left(steps, position)]) if backwards else steps[bisect_right(steps, position) :]
         return next((step for step in ways if are_wanted(self.values(step, cells))), None)
 
-    def changes_of(self, cell: str, until: Optional[int] = None) -> list[tuple[int, str]]:
+    def changes_of(self, cell: str, until: int | None = None) -> list[tuple[int, str]]:
         """The steps that changed a cell, with the new values. If `until` is given, the result has only steps up to that
         position."""
         self._wait(until)
@@ -315,7 +316,7 @@ class RecordedChanges:
             values[cell].append(texts[value])
         self._held += 1
 
-    def _wait(self, position: Optional[int]) -> None:
+    def _wait(self, position: int | None) -> None:
         """Waits until the changes up to a position have arrived (None: all changes)."""
 
     # ---- reading the changes
@@ -331,7 +332,7 @@ class RecordedChanges:
         """Whether the whole output has been read."""
         return self._is_whole
 
-    def has(self, position: Optional[int]) -> bool:
+    def has(self, position: int | None) -> bool:
         """Whether the changes up to a position have been read (None: all changes)."""
         return self._is_whole or (position is not None and position < self._lines.last)
 

@@ -1,7 +1,8 @@
 """All goroutines of a log, including goroutines without sockets. NAME.where has Go's numbers for them, each wait
 outside the poller, and the objects on which goroutines wait (docs/reference/RECORDING.md has the format)."""
 
-from typing import TYPE_CHECKING, Any, Container, Iterator, NamedTuple, Optional, Sequence
+from collections.abc import Container, Iterator, Sequence
+from typing import TYPE_CHECKING, Any, NamedTuple
 
 if TYPE_CHECKING:
     from .where import SourceCall
@@ -34,7 +35,7 @@ class GoGoroutine(NamedTuple):
 
     goid: int
     number: int
-    made: "Optional[SourceCall]"
+    made: "SourceCall | None"
     maker: int
     first: int
     last: int
@@ -187,7 +188,7 @@ class AllGoroutines:
         self.left_out: list[LeftOut] = []
         self.made: dict[int, ChannelOrigin] = {}  # by channel
         self.failed_dials: dict[int, list[FailedDial]] = {}  # by goroutine
-        self.held: Optional[dict[int, list[HeldMutex]]] = None  # by mutex; None if the recording doesn't have them
+        self.held: dict[int, list[HeldMutex]] | None = None  # by mutex; None if the recording doesn't have them
         self._goids: dict[int, int] = {}  # by the recording's numbers
         self.owners: dict[
             int, list[tuple[int, int]]
@@ -244,7 +245,7 @@ class AllGoroutines:
             self.owners.setdefault(number, []).append((step, goid))
             self._owned[goid] = number
 
-    def goid_of(self, number: int, step: Optional[int] = None) -> int:
+    def goid_of(self, number: int, step: int | None = None) -> int:
         """Go's number for the goroutine that has this number in the recording at a step. Without a step, the result is
         for the last goroutine that had the number. The result is 0 if unknown."""
         if step is None or number not in self.owners:
@@ -256,7 +257,7 @@ class AllGoroutines:
         the number; 0 if only one goroutine has had it, or if the goroutine is unknown."""
         return self.goid_of(number, step) if number in self.owners else 0
 
-    def number_of(self, goid: int, step: Optional[int] = None) -> int:
+    def number_of(self, goid: int, step: int | None = None) -> int:
         """The number in the recording that the goroutine with this goid has at a step, by default at the end; -1 if it
         has no number then."""
         known = self.goroutines.get(goid)
@@ -267,7 +268,7 @@ class AllGoroutines:
         """Whether the goroutine with this goid made a step that the recording attributes to this number."""
         return number not in self.owners or self.goid_of(number, step) == goid
 
-    def park_of(self, goid: int, position: int) -> Optional[Park]:
+    def park_of(self, goid: int, position: int) -> Park | None:
         """The goroutine's wait outside the poller at a position; None if it isn't in such a wait."""
         return next((park for park in self.parks.get(goid, ()) if park.is_at(position)), None)
 

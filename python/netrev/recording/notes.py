@@ -2,7 +2,7 @@
 the goroutines: their statuses, each parsed once, and how long they pause in each status."""
 
 from bisect import bisect_left
-from typing import NamedTuple, Optional
+from typing import NamedTuple
 
 CLOSING, TIMED_OUT, EVENT_ERROR = 1, 2, 3  # the codes of a side
 # (a million steps make some 100,000 notes, and a NamedTuple's own constructor takes three times as long)
@@ -23,7 +23,7 @@ class Due(NamedTuple):
     other side's deadline."""
 
     setting: Setting
-    moved: Optional[Setting]
+    moved: Setting | None
 
 
 class Passing(NamedTuple):
@@ -107,10 +107,10 @@ class Use:
         self.thrown: list[Taking] = []  # events for reading that a `pollreset` discarded
         # for each side: the origin of the deadline, the steps at which the deadline passed, the last event, the last
         # time that readiness was consumed or discarded, and the waits
-        self.dues: list[Optional[Due]] = [None, None]
+        self.dues: list[Due | None] = [None, None]
         self.passings: tuple[list[Passing], ...] = ([], [])
         self.last_events = [0, 0]
-        self.taken: list[Optional[Taking]] = [None, None]
+        self.taken: list[Taking | None] = [None, None]
         self.waits: tuple[list[Wait], ...] = ([], [])
 
     def last_event(self, side: str) -> int:
@@ -121,7 +121,7 @@ class Use:
         """The setting that a step made."""
         return self.settings[bisect_left(self.settings, (step,))]
 
-    def setting_after(self, side: str, step: int) -> Optional[Setting]:
+    def setting_after(self, side: str, step: int) -> Setting | None:
         """The first setting of a side after a step."""
         later = range(bisect_left(self.settings, (step + 1,)), len(self.settings))
         return next((self.settings[at] for at in later if side in self.settings[at].mode), None)

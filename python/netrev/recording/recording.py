@@ -6,10 +6,11 @@ import os
 import re
 import stat
 from bisect import bisect_left
+from collections.abc import Callable, Iterable, Iterator, Sequence
 from functools import cached_property
 from itertools import chain
 from os.path import commonprefix
-from typing import Any, Callable, Iterable, Iterator, NamedTuple, Optional, Sequence, TypeVar
+from typing import Any, NamedTuple, TypeVar
 
 from netrev.errors import NetrevError
 from netrev.messages import session as messages
@@ -96,8 +97,8 @@ class Recording:
         self._numbers: Sequence[int] = [number for number in numbers if number not in blank] if blank else numbers
         self.header_line = self._numbers[0] if self._numbers else 1
         self.lines = SourceLines()
-        self.changes: Optional[RecordedChanges] = None  # from netrev, once a caller needs them
-        self.suspects: Optional[SuspectList] = None  # the output of `netrev suspects`, for a recording in a file
+        self.changes: RecordedChanges | None = None  # from netrev, once a caller needs them
+        self.suspects: SuspectList | None = None  # the output of `netrev suspects`, for a recording in a file
 
     def _are_arrays(self, end: int) -> bool:
         """Whether each line before that place, except the first line, begins with `[`. If so, none of them is blank."""
@@ -158,7 +159,7 @@ class Recording:
         """Whether each step's array ends with a recorded answer, as in version 2."""
         return self.limits.get("netrev") == 2
 
-    def step_or_none(self, number: int) -> Optional[Step]:
+    def step_or_none(self, number: int) -> Step | None:
         """The step with this number, from 1; None if no such step exists."""
         return self.step(number) if 1 <= number <= self.length else None
 
@@ -192,12 +193,12 @@ class Recording:
         """The JSON array of each step, in order. Equal lines may share an array, which must not be changed."""
         return self.rows(lambda values: values)
 
-    def rows(self, row_of: Callable[[list[Any]], Row], begin: int = 1, end: Optional[int] = None) -> Iterator[Row]:
+    def rows(self, row_of: Callable[[list[Any]], Row], begin: int = 1, end: int | None = None) -> Iterator[Row]:
         """The result of `made` for each step's array, in order. Equal lines near each other may share one result."""
         return chain.from_iterable(self._rows_together(row_of, begin, end))
 
     def _rows_together(
-        self, row_of: Callable[[list[Any]], Row], begin: int, end: Optional[int]
+        self, row_of: Callable[[list[Any]], Row], begin: int, end: int | None
     ) -> Iterator[Iterable[Row]]:
         """The values of `rows`, in groups of steps that are parsed together."""
         end = self.length if end is None else min(end, self.length)
@@ -213,7 +214,7 @@ class Recording:
             rows = dict(zip(unlike, map(row_of, parsed(b"[%s]" % b",".join(unlike)))))
             yield map(rows.__getitem__, lines)
 
-    def steps_of(self, kinds: tuple[str, ...], until: int, socket: Optional[int] = None) -> Iterator[Step]:
+    def steps_of(self, kinds: tuple[str, ...], until: int, socket: int | None = None) -> Iterator[Step]:
         """The steps of these kinds up to a position. If a socket is given, the result has only the steps at that
         socket."""
         for number, values in self.arrays_like(kinds, until, socket):
@@ -222,7 +223,7 @@ class Recording:
                 yield step
 
     def arrays_like(
-        self, kinds: tuple[str, ...], until: int, socket: Optional[int] = None
+        self, kinds: tuple[str, ...], until: int, socket: int | None = None
     ) -> Iterator[tuple[int, list[Any]]]:
         """The arrays of the steps of these kinds, with the steps' numbers. The result may have other steps too."""
         numbers = list(self._numbers_of(kinds, until, socket))
@@ -235,7 +236,7 @@ class Recording:
         escape."""
         return b"\\" in self.data
 
-    def _numbers_of(self, kinds: tuple[str, ...], until: int, socket: Optional[int]) -> Iterable[int]:
+    def _numbers_of(self, kinds: tuple[str, ...], until: int, socket: int | None) -> Iterable[int]:
         """The numbers of the steps of these kinds, from a search of the text if that finds all of them. The result may
         have other steps too."""
         until = min(until, self.length)

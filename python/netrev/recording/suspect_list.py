@@ -4,7 +4,8 @@ suspects` use nrdb's own notes (`suspects/computed_facts.py`)."""
 
 import re
 import subprocess
-from typing import Iterable, NamedTuple, Optional
+from collections.abc import Iterable
+from typing import NamedTuple
 
 from netrev.system.interrupts import Interrupts
 
@@ -55,12 +56,12 @@ class OfDeadline(NamedTuple):
 
     line: str
     step: int
-    goroutine: Optional[int]
+    goroutine: int | None
     descriptor: int
     side: str
     setting: By
     sides: str
-    moved: Optional[By]
+    moved: By | None
 
 
 class SuspectEntries:
@@ -92,7 +93,7 @@ class SuspectEntries:
             goroutine, d, reading, writing = found.groups()
             self.asleep[int(goroutine), int(d), reading or writing] = line
 
-    def _take_deadline(self, line: str, step: str, event: Optional[str], g: str, d: str, side: str, *due: str) -> None:
+    def _take_deadline(self, line: str, step: str, event: str | None, g: str, d: str, side: str, *due: str) -> None:
         set_at, set_by, sides, moved_at, moved_by = due
         setting, moved = By(int(set_at), int(set_by)), By(int(moved_at), int(moved_by)) if moved_at else None
         found = OfDeadline(line, int(step), int(g) if event else None, int(d), side, setting, sides, moved)
@@ -109,8 +110,8 @@ class SuspectList:
 
     def __init__(self, program: str, path: str, interrupts: Interrupts) -> None:
         self._words, self._interrupts = [program, "suspects", path], interrupts
-        self._process: Optional["subprocess.Popen[bytes]"] = None
-        self._lines: Optional[list[str]] = None
+        self._process: "subprocess.Popen[bytes] | None" = None
+        self._lines: list[str] | None = None
 
     def prepare(self) -> None:
         """Starts netrev, unless it has been started."""
@@ -128,7 +129,7 @@ class SuspectList:
         except OSError:
             self._lines = []
 
-    def of(self, length: int) -> Optional[SuspectEntries]:
+    def of(self, length: int) -> SuspectEntries | None:
         """The list for a recording with this many steps; None if netrev has no such list."""
         if self._lines is None:
             self._lines = self._read()

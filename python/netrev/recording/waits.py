@@ -2,14 +2,15 @@
 
 from bisect import bisect_right
 from collections import defaultdict
+from collections.abc import Iterable, Iterator
 from functools import lru_cache
 from operator import attrgetter
-from typing import Iterable, Iterator, NamedTuple, Optional
+from typing import NamedTuple
 
+from .cell_meanings import duration
 from .goroutines import A_MUTEX, A_RECEIVER, A_SLEEP, A_WAIT_GROUP, ROOM, STILL, At, Park
 from .recording import Recording
 from .where import RecordedWait, SourceLines, Stack
-from .cell_meanings import duration
 
 MOST_NUMBERS = 8  # the maximum number of goroutines that are listed by number
 LAST_USE, A_CONNECTION, A_RESPONSE, ALL_REQUESTS = (
@@ -45,7 +46,7 @@ class Name(NamedTuple):
         return f"goid {self.number}" if self.is_goid else f"goroutine {self.number}"
 
     @property
-    def values(self) -> dict[str, Optional[int]]:
+    def values(self) -> dict[str, int | None]:
         """The name as JSON."""
         return {"goroutine": None, "goid": self.number} if self.is_goid else {"goroutine": self.number}
 
@@ -57,10 +58,10 @@ class ObjectWait(NamedTuple):
 
     name: Name
     first: int
-    last: Optional[int]
+    last: int | None
     reason: str
     stack: Stack
-    by: Optional[Name] = None
+    by: Name | None = None
     objects: tuple[At, ...] = ()
     begin: int = 0  # in nanoseconds; orders waits that begin after the same step
     due: int = 0  # the planned end of a sleep, if known
@@ -101,7 +102,7 @@ class Waits:
         for some in self.of.values():
             some.sort(key=lambda wait: (wait.first, wait.begin))
 
-    def at(self, name: Name, position: int) -> Optional[ObjectWait]:
+    def at(self, name: Name, position: int) -> ObjectWait | None:
         """The wait that a goroutine is in at a position."""
         some = self.of.get(name, [])
         last = bisect_right(some, position, key=FIRST) - 1
@@ -141,7 +142,7 @@ def of_park(lines: SourceLines, park: Park) -> ObjectWait:
     return ObjectWait(name, park.first, last, reason, lines.stacks[park.stack], by, park.objects, park.begin, park.due)
 
 
-def name_of_goid(lines: SourceLines, goid: int, step: Optional[int] = None) -> Name:
+def name_of_goid(lines: SourceLines, goid: int, step: int | None = None) -> Name:
     """The name of the goroutine with this goid: its number in the recording at the step (by default at the end), or
     else the goid."""
     number = lines.number_of(goid, step)

@@ -6,10 +6,11 @@ import os
 import re
 import stat
 from array import array
+from collections.abc import Iterable
 from functools import cached_property
 from itertools import accumulate
 from pathlib import Path
-from typing import Any, Iterable, NamedTuple, Optional
+from typing import Any, NamedTuple
 
 from netrev.errors import NetrevError
 from netrev.messages import session as messages
@@ -40,9 +41,9 @@ class Stack(NamedTuple):
     """The calls at a step, innermost first, and the `go` statement that started the step's goroutine."""
 
     calls: tuple[SourceCall, ...]
-    made: Optional[SourceCall]
+    made: SourceCall | None
 
-    def own(self) -> Optional[tuple[SourceCall, str]]:
+    def own(self) -> tuple[SourceCall, str] | None:
         """The innermost call of the program, or else of a library, and the function that it calls."""
         for wanted in ((OF_THE_PROGRAM,), (OF_THE_PROGRAM, OF_A_LIBRARY)):
             inner = ""
@@ -124,10 +125,10 @@ class SourceLines(AllGoroutines):
         self.steps = array("l")
         self.stacks: dict[int, Stack] = {0: Stack((), None)}
         # the recorded orders between pairs of steps; None if the recorder saw no order
-        self.orders: Optional[list[tuple[int, int]]] = None
-        self.bytes: Optional[
-            int
-        ] = None  # the largest count that is recorded for a read or a write; None if counts have no limit
+        self.orders: list[tuple[int, int]] | None = None
+        self.bytes: int | None = (
+            None  # the largest count that is recorded for a read or a write; None if counts have no limit
+        )
         self.has_tags = False  # whether Go compared an event's tag with the current use of the descriptor
         self.prelude = 0  # the number of steps that lead to the state in which the recording begins
         # for each test, the first and the last step during the test, its package and its name

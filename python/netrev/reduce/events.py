@@ -3,7 +3,7 @@
 removed."""
 
 from functools import partial
-from typing import Any, NamedTuple, Optional
+from typing import Any, NamedTuple
 
 from netrev.recording.recording import Recording
 from netrev.run.notes import Look, Notes
@@ -23,10 +23,10 @@ class Event(NamedTuple):
     kind: str
     arguments: tuple[Any, ...]
     answer: Answer
-    timer: Optional[Timer] = None
+    timer: Timer | None = None
     tag_lag: int = 0
 
-    def named(self, form: str) -> Optional[int]:
+    def named(self, form: str) -> int | None:
         """The goroutine, socket or use that an event names."""
         forms = KINDS[self.kind].arguments
         return self.arguments[forms.index(form)] if form in forms else None
@@ -66,12 +66,12 @@ class Events:
                 self.all[-1] = self.all[-1]._replace(timer=self._firings[-1])
         self.kept_for_ever = {hold.step for holds in notes.holds.values() for hold in holds}
 
-    def use_at(self, descriptor: int, step: int) -> Optional[int]:
+    def use_at(self, descriptor: int, step: int) -> int | None:
         """A descriptor's latest use that was opened at this step or before; None if none was."""
         found = [at for at, use in enumerate(self.uses) if use.descriptor == descriptor and use.opened <= step]
         return found[-1] if found else None
 
-    def socket_of(self, event: Event) -> Optional[int]:
+    def socket_of(self, event: Event) -> int | None:
         """The socket of an event. An event names its socket directly, or by a descriptor or timer."""
         if (socket := event.named("s")) is not None:
             return socket

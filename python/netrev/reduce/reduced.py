@@ -1,8 +1,9 @@
 """Reduces the recording of a session to the steps that still show a target, and reports what was removed."""
 
 from collections import Counter
+from collections.abc import Callable
 from fnmatch import fnmatchcase
-from typing import Callable, NamedTuple, Optional
+from typing import NamedTuple
 
 from netrev.findings.suspects.ranking import suspects_of
 from netrev.messages import searches as messages
@@ -135,7 +136,7 @@ def _last_with(session: Session, cell: str, value: str) -> int:
     for position in (session.current_position().position, length):
         if is_wanted(changes.value(cell, position)):
             return position
-    found: Optional[int] = changes.nearest([cell], lambda values: is_wanted(values[0]), length, True)
+    found: int | None = changes.nearest([cell], lambda values: is_wanted(values[0]), length, True)
     if found is None:
         raise UsageError(messages.NO_STEP_GIVES.format(cell=cell, value=value))
     return found

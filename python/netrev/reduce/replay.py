@@ -2,7 +2,8 @@
 If a step of a unit doesn't apply or has a different answer, the unit is removed too."""
 
 from bisect import bisect_left
-from typing import Any, Callable, Iterable, Optional
+from collections.abc import Callable, Iterable
+from typing import Any
 
 from netrev.machine.in_place import Machine
 from netrev.machine.machine import StepRefusedError, World
@@ -115,7 +116,7 @@ class ReplayPlayer:
         self.steps.append((step, answer))
         return True
 
-    def _renumbered(self, event: Event) -> Optional[Step]:
+    def _renumbered(self, event: Event) -> Step | None:
         """The step of an event with the new numbers of its objects; None if an object doesn't exist."""
         if event.kind == "pop":
             return ("pop",) if self._is_next(event) else None

@@ -5,7 +5,7 @@ their stacks and calls; that recording isn't reduced."""
 import re
 import shlex
 from pathlib import Path
-from typing import NamedTuple, Optional
+from typing import NamedTuple
 from urllib.parse import quote
 
 from netrev.connection.beginnings import begin_words
@@ -98,7 +98,7 @@ def report_of(session: Session, wanted: Wanted, reduced: Reduced, page: str) -> 
     return "\n\n".join(parts) + "\n"
 
 
-def _diagram(recording: Recording, story: Optional[Data]) -> list[str]:
+def _diagram(recording: Recording, story: Data | None) -> list[str]:
     """The steps as a diagram, unless the recording has too many steps."""
     diagram = sequence(recording, story)
     return [f"```mermaid\n{diagram}\n```"] if diagram else []
@@ -165,7 +165,7 @@ class Story(NamedTuple):
     looks: list[str]
 
 
-def story_of(session: Session) -> Optional[Story]:
+def story_of(session: Session) -> Story | None:
     """What a report says about a recording: its first failure, or else its first hang. None if neither is known."""
     recording = session.text()
     graph = graph_at(recording, recording.length)

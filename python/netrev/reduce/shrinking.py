@@ -2,7 +2,7 @@
 then whole goroutines, sockets and runs of units. It tries to remove all candidates at once, then half of them at a
 time, then fewer."""
 
-from typing import Iterable, Iterator, Optional
+from collections.abc import Iterable, Iterator
 
 from netrev.errors import NetrevError
 
@@ -49,7 +49,7 @@ class Shrinking:
         self.player.settle(self.kept)
         return self.kept
 
-    def _showing(self, candidate: Iterable[int]) -> Optional[set[int]]:
+    def _showing(self, candidate: Iterable[int]) -> set[int] | None:
         """The units that remain after a replay; None if the replay doesn't show the target."""
         settled = self.player.settle(candidate)
         return settled if self.target.shows(self.player) else None
@@ -98,7 +98,7 @@ class Shrinking:
         yield self._whole(wide)
         yield set(range(len(self.units)))
 
-    def _about(self, sockets: set[Optional[int]], goroutines: set[Optional[int]]) -> set[int]:
+    def _about(self, sockets: set[int | None], goroutines: set[int | None]) -> set[int]:
         """The units about these objects, and all ticks."""
         found = set()
         for place, event in enumerate(self.events.all):

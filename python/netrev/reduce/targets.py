@@ -1,11 +1,11 @@
 """What a reduced recording must still show: a suspect, a cell with a value at the end, or some steps."""
 
 from abc import ABC, abstractmethod
+from collections.abc import Sequence
 from fnmatch import fnmatchcase
-from typing import Optional, Sequence
 
-from netrev.findings.suspects.suspect import Suspect
 from netrev.findings.suspects.ranking import suspects_of
+from netrev.findings.suspects.suspect import Suspect
 from netrev.machine.cells import value as value_of_cell
 from netrev.machine.machine import INSIDE
 from netrev.recording.cell_meanings import in_words
@@ -22,9 +22,9 @@ class ReductionTarget(ABC):
     """A target: what a reduced recording must show, with its goroutine, socket and use, and the steps at which it
     happens."""
 
-    goroutine: Optional[int] = None
-    socket: Optional[int] = None
-    use: Optional[int] = None
+    goroutine: int | None = None
+    socket: int | None = None
+    use: int | None = None
     steps: list[int]
 
     @abstractmethod
@@ -60,7 +60,7 @@ class CellTarget(ReductionTarget):
     def __init__(self, events: Events, cell: str, wanted: str, position: int) -> None:
         name, *number = cell.split()
         self.name, self.wanted, self.steps = name, wanted, [position]
-        self.which: Optional[int] = None
+        self.which: int | None = None
         self.of = CELLS[name].of
         if self.of is Of.DESCRIPTOR:
             self.which = self.use = events.use_at(int(number[0]), position)

@@ -1,8 +1,9 @@
 """Units: steps that are removed together. A unit has the steps of a goroutine's call, or an event and the bytes that
 came or went before it, or a timer's `pop` and the `fire` that runs its function. Any other step is a unit by itself."""
 
+from collections.abc import Iterable
 from enum import Enum
-from typing import Iterable, NamedTuple, Optional
+from typing import NamedTuple
 
 from netrev.run.flow import LAST
 from netrev.text.vocabulary import OF_A_GOROUTINE
@@ -56,7 +57,7 @@ def _calls(events: Events) -> list[Unit]:
     return [unit for units in calls.values() for unit in units]
 
 
-def _frees(events: Events, calls: Optional[list[Unit]], event: Event) -> bool:
+def _frees(events: Events, calls: list[Unit] | None, event: Event) -> bool:
     """Whether the event frees a descriptor, and the goroutine's last call gave up the descriptor's last reference."""
     return event.kind == "pollclose" and calls is not None and events.all[calls[-1].events[-1]].answer == LAST
 

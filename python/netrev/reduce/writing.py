@@ -4,8 +4,9 @@ import json
 import os
 import subprocess
 import tempfile
+from collections.abc import Sequence
 from pathlib import Path
-from typing import Any, Sequence
+from typing import Any
 
 from netrev.machine.machine import World
 from netrev.messages import searches as messages

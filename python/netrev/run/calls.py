@@ -2,8 +2,9 @@
 how it ended. nrdb finds the calls in one pass over the recording's steps."""
 
 from collections import defaultdict
+from collections.abc import Callable
 from functools import partial
-from typing import Any, Callable, Optional
+from typing import Any
 
 from netrev.recording.call import CLOSE, CLOSE_WRITE, CONTROL, OPEN, Call, Outcome
 from netrev.recording.notes import Goroutine
@@ -46,7 +47,7 @@ class Book:
             return {kind: partial(look, self) for kind, look in LOOKS.items()}
         return {kind: partial(self._seeing_errors, LOOKS.get(kind)) for kind in OF_A_GOROUTINE}
 
-    def _seeing_errors(self, maker: Optional[Maker], notes: Notes, g: int, *arguments: Any) -> Look:
+    def _seeing_errors(self, maker: Maker | None, notes: Notes, g: int, *arguments: Any) -> Look:
         """Stores the step's error in the innermost call. Only a recording with errors of system calls needs this. The
         call may end with this step."""
         inner, goroutine, calls = maker and maker(self, notes, g, *arguments), notes.goroutine(g), self.open[g]

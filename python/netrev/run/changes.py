@@ -2,7 +2,8 @@
 without netrev, by the Python model of the machine, which takes many times as long."""
 
 import subprocess
-from typing import Any, Callable, Iterable, Iterator, Optional
+from collections.abc import Callable, Iterable, Iterator
+from typing import Any
 
 from netrev.machine.in_place import Machine
 from netrev.messages import session as messages
@@ -22,9 +23,9 @@ class PrintedChanges:
 
     def __init__(self, netrev: str, path: str) -> None:
         self._words = [netrev, "changes", file_word(path)]
-        self._process: Optional["subprocess.Popen[bytes]"] = None
-        self._fault: Optional[OSError] = None
-        self._ended: Optional[tuple[int, bytes, bytes]] = None
+        self._process: "subprocess.Popen[bytes] | None" = None
+        self._fault: OSError | None = None
+        self._ended: tuple[int, bytes, bytes] | None = None
 
     def __enter__(self) -> "PrintedChanges":
         pipe = subprocess.PIPE
@@ -39,7 +40,7 @@ class PrintedChanges:
             self._process.kill()
             self._process.communicate()
 
-    def ended(self, seconds: Optional[float] = None) -> tuple[int, bytes, bytes]:
+    def ended(self, seconds: float | None = None) -> tuple[int, bytes, bytes]:
         """Waits for netrev to end, and returns its status and its two outputs; raises an OSError if it couldn't be
         started."""
         if self._ended is None:
@@ -50,7 +51,7 @@ class PrintedChanges:
             self._ended = self._process.returncode, printed, errors
         return self._ended
 
-    def of(self, recording: Recording) -> Optional[RecordedChanges]:
+    def of(self, recording: Recording) -> RecordedChanges | None:
         """The changes of the recording. The result is None if netrev can't be started, takes longer than the model
         would, or refuses the recording."""
         try:
@@ -88,7 +89,7 @@ class PlayedSteps(Recording):
     def has_answers(self) -> bool:
         return False
 
-    def rows(self, row_of: Callable[[list[Any]], Row], begin: int = 1, end: Optional[int] = None) -> Iterator[Row]:
+    def rows(self, row_of: Callable[[list[Any]], Row], begin: int = 1, end: int | None = None) -> Iterator[Row]:
         steps = self._steps[begin - 1 : end]
         return (row_of([part.hex() if isinstance(part, bytes) else part for part in step]) for step in steps)
 

@@ -2,7 +2,7 @@
 what follows each answer. A call is a list of operations; `Read` locks, resets, reads and unlocks."""
 
 from enum import Enum, auto
-from typing import Any, NamedTuple, Optional
+from typing import Any, NamedTuple
 
 from netrev.machine.machine import Status
 from netrev.text.contents import Answer, Step
@@ -69,7 +69,7 @@ def _names(sort: OperationType) -> Names:
 NAMES = {sort: _names(sort) for sort in OperationType}
 
 
-def step_by_status(g: int, status: Status) -> Optional[Step]:
+def step_by_status(g: int, status: Status) -> Step | None:
     """The next step of a goroutine by its status; None if it is idle, has ended or sleeps."""
     if status[0] not in BY_STATUS:
         return None

@@ -4,11 +4,11 @@ once, when it is first needed, because a recording may have a million steps."""
 import sys
 from bisect import bisect_right
 from collections import Counter, defaultdict
+from collections.abc import Collection, Iterable, Iterator, Sequence
 from contextlib import suppress
 from functools import cached_property, lru_cache
 from itertools import chain
 from operator import attrgetter
-from typing import Collection, Iterable, Iterator, Optional, Sequence
 
 from netrev.recording.call import CLOSE, CLOSE_WRITE, OPEN, Call, Outcome
 from netrev.recording.recording import Recording, Step
@@ -35,7 +35,7 @@ class RunIndex:
     def __init__(self, recording: Recording) -> None:
         self.recording = recording
         self._ended: dict[tuple[int, str], list[Call]] = {}  # by side, in the order of their ends
-        self._closing: dict[tuple[int, bool], Optional[Call]] = {}
+        self._closing: dict[tuple[int, bool], Call | None] = {}
         self._under_way: dict[tuple[int, int], list[Call]] = {}
 
     # ---- steps
@@ -58,7 +58,7 @@ class RunIndex:
         steps are read."""
         return StepOwners(self.notes, first, last).used()
 
-    def steps_of(self, of: Of, number: int, after: int = 0, until: Optional[int] = None) -> Iterator[int]:
+    def steps_of(self, of: Of, number: int, after: int = 0, until: int | None = None) -> Iterator[int]:
         """The steps of a goroutine, a socket or a descriptor that lead from one position to another."""
         column = getattr(self.owners, COLUMNS[of])
         with suppress(ValueError):
@@ -66,7 +66,7 @@ class RunIndex:
                 after = column.index(number, after, len(column) if until is None else until) + 1
                 yield after
 
-    def next_step(self, goroutine: int, position: int) -> Optional[int]:
+    def next_step(self, goroutine: int, position: int) -> int | None:
         """A goroutine's first step after a position."""
         return next(self.steps_of(Of.GOROUTINE, goroutine, position), None)
 
@@ -97,7 +97,7 @@ class RunIndex:
         frames = frames_from_own(self.stack_at(goroutine, position))
         return frames[0].function if frames else ""
 
-    def position_of_return(self, goroutine: int, position: int) -> Optional[int]:
+    def position_of_return(self, goroutine: int, position: int) -> int | None:
         """The position before the goroutine's first step outside the function that it is in; None if no such step
         exists, or if the function isn't known. A call of the function from another line or from another function counts
         as outside."""
@@ -143,14 +143,14 @@ class RunIndex:
         """The calls of a goroutine; none if it made no step."""
         return [] if name.is_goid else self.by_goroutine.get(name.number, [])
 
-    def call_of(self, step: int, goroutine: Optional[int] = None) -> Optional[Call]:
+    def call_of(self, step: int, goroutine: int | None = None) -> Call | None:
         """The innermost call that a step belongs to. If a goroutine is given, that goroutine's innermost call around the
         step."""
         g = self.recording.step(step).argument("g") if goroutine is None else goroutine
         begun = back(self.by_goroutine.get(g, ()), step)
         return next((call for call in begun if not call.last or call.last >= step), None)
 
-    def call_at(self, goroutine: int, position: int) -> Optional[Call]:
+    def call_at(self, goroutine: int, position: int) -> Call | None:
         """The innermost call that a goroutine is in at a position."""
         begun = back(self.by_goroutine.get(goroutine, ()), position)
         return next((call for call in begun if not call.last or call.last > position), None)
@@ -160,15 +160,15 @@ class RunIndex:
         begun = back(self.by_goroutine.get(goroutine, ()), position)
         return [call for call in begun if not call.last or call.last > position][::-1]
 
-    def other_end(self, socket: int) -> Optional[int]:
+    def other_end(self, socket: int) -> int | None:
         """The socket at the other end of a connection, if known."""
         return self.recording.lines.peers.get(socket)
 
-    def opening(self, socket: int) -> Optional[Call]:
+    def opening(self, socket: int) -> Call | None:
         """The call that opened a socket, if the recording has it."""
         return next((call for call in self.by_socket.get(socket, ()) if call.name == OPEN), None)
 
-    def closing(self, socket: int, until: int, whole: bool = False) -> Optional[Call]:
+    def closing(self, socket: int, until: int, whole: bool = False) -> Call | None:
         """The first call, up to a step, that closed a socket; if not `whole`, a call that closed only the write side
         counts too."""
         if (socket, whole) not in self._closing:
@@ -187,16 +187,16 @@ class RunIndex:
             self._under_way[socket, step] = list(begun)
         return self._under_way[socket, step]
 
-    def last_use(self, socket: int, until: int, names: Iterable[str] = MOVING) -> Optional[Call]:
+    def last_use(self, socket: int, until: int, names: Iterable[str] = MOVING) -> Call | None:
         """The last call on a socket that has one of these names and began no later than a step."""
         return next((call for call in back(self.by_socket.get(socket, ()), until) if call.name in names), None)
 
-    def before(self, call: Call) -> Optional[Call]:
+    def before(self, call: Call) -> Call | None:
         """The goroutine's last call before this one that read, wrote or waited."""
         begun = back(self.by_goroutine[call.goroutine], call.first - 1)
         return next((earlier for earlier in begun if earlier.name in READING + WRITING), None)
 
-    def next_of(self, call: Call) -> Optional[Call]:
+    def next_of(self, call: Call) -> Call | None:
         """The next call of the same name by the same goroutine."""
         calls = self.by_goroutine[call.goroutine]
         begin = bisect_right(calls, call.first, key=FIRST)
@@ -227,7 +227,7 @@ class RunIndex:
         begin, end = (bisect_right(ended, step, key=END) for step in (call.cause, call.first))
         return sorted(ended[begin:end], key=FIRST)
 
-    def failed(self, position: Optional[int] = None) -> list[Call]:
+    def failed(self, position: int | None = None) -> list[Call]:
         """The calls that had failed at a position, by default at the end."""
         until = sys.maxsize if position is None else position
         return [call for call in self.calls if 0 < call.last <= until and call.outcome.is_error]

@@ -11,9 +11,10 @@ by step and cell (`12 lock 0`). `changed_aspects` in crates/nr_rev/specs/Aspect.
 from __future__ import annotations
 
 from collections import deque
+from collections.abc import Callable, Mapping
 from functools import lru_cache
 from types import MappingProxyType
-from typing import Any, Callable, Mapping, Optional
+from typing import Any
 
 from netrev.recording.changes import RecordedChanges, StepChanges
 from netrev.recording.notes import (
@@ -485,7 +486,7 @@ NOTES: dict[str, Callable[..., Note]] = {
 
 Look = Callable[[int], None]  # called with the step's number
 Looks = Mapping[str, Callable[..., Look]]  # makes such a function for each kind, from the notes and a step's arguments
-Row = tuple[Goroutine, Optional[Note], Optional[Look]]
+Row = tuple[Goroutine, Note | None, Look | None]
 CLOSED = 1  # the bit of a lock word for a closed socket
 MOST_CHANGED = 1_024  # the maximum number of bytes in a firing's changes, which are a dozen lines at most
 

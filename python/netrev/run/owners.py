@@ -3,7 +3,8 @@
 from array import array
 from bisect import bisect_right
 from collections import Counter
-from typing import Any, Callable, NamedTuple, Optional
+from collections.abc import Callable
+from typing import Any, NamedTuple
 
 from netrev.machine.machine import INSIDE
 from netrev.text.vocabulary import KINDS
@@ -62,7 +63,7 @@ class StepOwners:
     """The goroutine, the socket and the descriptor of each step from `first` to `last`; -1 if the step has none. The
     earlier steps aren't read."""
 
-    def __init__(self, notes: Notes, first: int = 1, last: Optional[int] = None) -> None:
+    def __init__(self, notes: Notes, first: int = 1, last: int | None = None) -> None:
         self._notes, self._begin = notes, max(first, 1) - 1
         self.goroutines, self._sockets, self._descriptors = array("i"), array("i"), array("i")
         self._of_timers: list[int] = []  # the steps of timers whose owners no caller has needed yet
@@ -92,7 +93,7 @@ class StepOwners:
         pairs = Counter(zip(self.goroutines, self._sockets))
         return Counter({pair: many for pair, many in pairs.items() if pair[0] != NONE})
 
-    def _go_through(self, last: Optional[int]) -> None:
+    def _go_through(self, last: int | None) -> None:
         named, descriptor_of, socket_of = self._named, self._descriptor_of, self._socket_of
         is_of, socket_is, descriptor_is = (
             column.append for column in (self.goroutines, self._sockets, self._descriptors)

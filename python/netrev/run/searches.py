@@ -2,13 +2,14 @@
 all requested objects come from one search of the recording's text."""
 
 import re
+from collections.abc import Collection, Iterator
 from dataclasses import dataclass
 from itertools import islice
-from typing import Collection, Iterator, NamedTuple
+from typing import NamedTuple
 
+from netrev.recording.cell_meanings import LockWord
 from netrev.recording.changes import RecordedChanges
 from netrev.recording.recording import Recording, Step
-from netrev.recording.cell_meanings import LockWord
 from netrev.text.vocabulary import OF_A_GOROUTINE
 
 Lock = tuple[int, str]  # a socket and a side

@@ -1,14 +1,16 @@
 """The timer that a `pop` starts and a `fire` runs, and the step that set it. nrdb computes the timers from the
 recording's steps, because netrev shows only the number of timers."""
 
+from collections.abc import Mapping
 from functools import lru_cache
-from typing import Any, Mapping, NamedTuple, Optional
+from typing import Any, NamedTuple
 
 from netrev.connection.output import Row, Table
-from netrev.machine.deadlines import DeadlineTimer as Armed, Deadlines
+from netrev.machine.deadlines import Deadlines
+from netrev.machine.deadlines import DeadlineTimer as Armed
 from netrev.machine.polling import deadline_of
-from netrev.recording.recording import Recording, Step
 from netrev.recording.cell_meanings import SIDES
+from netrev.recording.recording import Recording, Step
 
 # steps that arm, stop and run timers, and steps that reuse descriptors or advance the clock
 FOLLOWED = frozenset(("pollopen", "pollclose", "setdeadline", "evict", "tick", "pop", "fire"))
@@ -41,7 +43,7 @@ class Following:
         self._free: list[int] = []  # free descriptors, with the one freed last at the end
         self._sockets: dict[int, int] = {}  # the socket of each descriptor
 
-    def follow(self, number: int, kind: str, *arguments: Any) -> Optional[StepTimer]:
+    def follow(self, number: int, kind: str, *arguments: Any) -> StepTimer | None:
         """Processes a step, and returns the timer that it pops or runs."""
         deadlines = self._deadlines
         match kind, *arguments:
@@ -64,7 +66,7 @@ class Following:
         return None
 
 
-def _timer(armed: Optional[Armed], is_stale: bool) -> StepTimer:
+def _timer(armed: Armed | None, is_stale: bool) -> StepTimer:
     """A timer of the machine, in the form that is printed."""
     assert armed  # (netrev has popped one)
     socket, step, g = armed.setter
@@ -80,7 +82,7 @@ def timers_of(recording: Recording) -> Mapping[int, StepTimer]:
     return {number: timer for number, timer in timers if timer}
 
 
-def timer_of(recording: Recording, step: Optional[Step]) -> Optional[StepTimer]:
+def timer_of(recording: Recording, step: Step | None) -> StepTimer | None:
     """The timer of a step; None if the step has none."""
     return timers_of(recording)[step.number] if step and step.kind in ("pop", "fire") else None
 

@@ -1,8 +1,8 @@
 """`commands N`: lines that nrdb runs each time a mark is hit, as GDB does."""
 
 from collections import deque
+from collections.abc import Iterator, Sequence
 from dataclasses import dataclass, field
-from typing import Iterator, Optional, Sequence
 
 END = "end"
 
@@ -12,7 +12,7 @@ class Attached:
     """The lines attached to each mark, the mark whose lines are being typed, and the lines to run next."""
 
     lines: dict[str, list[str]] = field(default_factory=dict)
-    taking: Optional[str] = None
+    taking: str | None = None
     pending: deque[str] = field(default_factory=deque)
 
     def begin(self, mark: str) -> None:

@@ -2,10 +2,10 @@
 commands."""
 
 import re
+from collections.abc import Collection, Mapping
 from dataclasses import dataclass
 from enum import Enum
 from functools import lru_cache
-from typing import Collection, Mapping
 
 from netrev.errors import NetrevError
 from netrev.messages import session as messages

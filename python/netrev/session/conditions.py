@@ -1,7 +1,8 @@
 """Conditions of marks: a cell, and the value that the cell must have when the mark is hit."""
 
+from collections.abc import Sequence
 from fnmatch import fnmatchcase
-from typing import NamedTuple, Optional, Sequence
+from typing import NamedTuple
 
 from netrev.messages import session as messages
 from netrev.text.vocabulary import cell_of
@@ -14,7 +15,7 @@ class Condition(NamedTuple):
     value: str
 
     @classmethod
-    def of(cls, words: Sequence[str]) -> Optional["Condition"]:
+    def of(cls, words: Sequence[str]) -> "Condition | None":
         """The condition that words form, as in `until gor 3 parked*` or `until rg 0 = ready`; None if they form no
         condition."""
         words = [word for word in words if word not in ("=", "==")]

@@ -1,9 +1,10 @@
 """Writes nrdb's files atomically, and never over the recording that nrdb reads."""
 
 import os
+from collections.abc import Iterator
 from contextlib import contextmanager
 from pathlib import Path
-from typing import IO, Any, Iterator
+from typing import IO, Any
 
 from netrev.connection.errors import UsageError
 from netrev.messages import session as messages

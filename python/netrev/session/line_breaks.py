@@ -3,8 +3,8 @@ past such a break, nrdb goes back to it."""
 
 import re
 from bisect import bisect_left, bisect_right
+from collections.abc import Callable
 from dataclasses import dataclass, field
-from typing import Callable, Optional
 
 from netrev.recording.recording import Recording
 
@@ -44,12 +44,12 @@ class Breaks:
         self.standing[mark.number] = mark
         return mark
 
-    def nearest(self, position: int, forwards: bool) -> Optional[int]:
+    def nearest(self, position: int, forwards: bool) -> int | None:
         """The nearest later (or, backwards, earlier) position at which a break stops."""
         near = [stop for mark in self.standing.values() if (stop := self._next(mark, position, forwards)) is not None]
         return (min if forwards else max)(near, default=None)
 
-    def _next(self, mark: Break, position: int, forwards: bool) -> Optional[int]:
+    def _next(self, mark: Break, position: int, forwards: bool) -> int | None:
         """The nearest later (or, backwards, earlier) position at which this break stops."""
         near = beyond(mark.place, position, forwards)
         while near is not None and not self.is_met(mark.number, near):
@@ -70,7 +70,7 @@ class Breaks:
         return found
 
 
-def names_a_place(recording: Optional[Recording], words: list[str]) -> bool:
+def names_a_place(recording: Recording | None, words: list[str]) -> bool:
     """Whether nrdb itself answers this netrev command, because the command names a place in the program, a break at
     such a place, or all marks."""
     name, *rest = words
@@ -79,7 +79,7 @@ def names_a_place(recording: Optional[Recording], words: list[str]) -> bool:
     return name == "delete" and (not rest or (len(rest) == 1 and NUMBER.fullmatch(rest[0]) is not None))
 
 
-def beyond(place: ProgramPlace, position: int, forwards: bool) -> Optional[int]:
+def beyond(place: ProgramPlace, position: int, forwards: bool) -> int | None:
     """The nearest later (or, backwards, earlier) position at which a goroutine reaches a place."""
     rows = place.positions
     at = bisect_right(rows, position) if forwards else bisect_left(rows, position) - 1

@@ -3,13 +3,12 @@
 import difflib
 import re
 import unicodedata
-
-from typing import Callable, Optional
+from collections.abc import Callable
 
 from netrev.messages import lines as messages
 from netrev.text.vocabulary import CELLS, DUMPS, KINDS, MOST, MOST_LINE, Cell, Of, cell_of, number_of
 
-from .commands import ALL_TOPICS, COMMANDS, SPELLINGS, TOPICS, TOPIC_SPELLINGS
+from .commands import ALL_TOPICS, COMMANDS, SPELLINGS, TOPIC_SPELLINGS, TOPICS
 
 
 def hint(words: list[str], fault: str) -> str:
@@ -108,7 +107,7 @@ def of_steps(words: list[str], command: str) -> str:
     return messages.DECIMAL.format(command=command, number=number)
 
 
-def spelled_number(word: str) -> Optional[int]:
+def spelled_number(word: str) -> int | None:
     """The number that a word gives in another notation; None if the word isn't a number, or if netrev never accepts
     that number."""
     try:

@@ -1,8 +1,9 @@
 """The positions at which goroutines reach a line or a function of the program, found in the stacks of NAME.where."""
 
 import re
+from collections.abc import Callable, Hashable, Iterable, Sequence
 from functools import lru_cache
-from typing import Callable, Hashable, Iterable, NamedTuple, Optional, Sequence, TypeVar
+from typing import NamedTuple, TypeVar
 
 from netrev.messages import session as messages
 from netrev.recording.recording import Recording
@@ -33,7 +34,7 @@ class Places:
         self._makers = run.owners.goroutines
         self._begins = {call.first for call in run.calls}
 
-    def place(self, spelled: str) -> Optional[ProgramPlace]:
+    def place(self, spelled: str) -> ProgramPlace | None:
         """The place that a word names; None if no recorded step comes from that place."""
         found = OF_A_LINE.fullmatch(spelled)
         positions = self._of_line(found[1], int(found[2])) if found else self._of_function(spelled)
@@ -87,7 +88,7 @@ def no_step_from(spelled: str, near: Sequence[str]) -> str:
     return messages.NO_STEP_FROM.format(place=spelled)
 
 
-def is_place(recording: Optional[Recording], words: list[str]) -> bool:
+def is_place(recording: Recording | None, words: list[str]) -> bool:
     """Whether the words after a command name a place of the program and nothing else: FILE:LINE, a function with its
     package or receiver, or any other function of the recording."""
     if len(words) != 1 or words[0] in KINDS or words[0].isdecimal() or words[0].startswith("@") or cell_of(words):

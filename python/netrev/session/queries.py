@@ -2,8 +2,9 @@
 
 import codecs
 import io
+from collections.abc import Iterator, Sequence
 from functools import lru_cache
-from typing import Iterator, Protocol, Sequence, TextIO
+from typing import Protocol, TextIO
 
 from netrev.connection.netrev import AT_ONCE, Netrev
 from netrev.connection.output import Printer

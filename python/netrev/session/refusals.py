@@ -6,13 +6,14 @@ import os
 import re
 import subprocess
 import tempfile
-from typing import Any, Iterator
+from collections.abc import Iterator
+from typing import Any
 
 from netrev.connection.world import opened_by
 from netrev.messages import texts as messages
 from netrev.recording.answers import answer_text, answer_words, meaning
-from netrev.recording.recording import Recording, Step, shortened
 from netrev.recording.cell_meanings import in_words
+from netrev.recording.recording import Recording, Step, shortened
 from netrev.text.vocabulary import KINDS, REASONS
 
 from .text_hints import text_hint

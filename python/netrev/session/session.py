@@ -1,7 +1,7 @@
 """A session. A session answers a line itself, or sends it to netrev. Each move prints the new position."""
 
+from collections.abc import Callable, Mapping, Sequence
 from dataclasses import dataclass, field
-from typing import Callable, Mapping, Optional, Sequence
 
 from netrev.connection.beginnings import report_begin
 from netrev.connection.errors import MismatchedRecordingError, UsageError, needed, unexpected
@@ -24,10 +24,10 @@ from netrev.connection.shapes import (
 )
 from netrev.connection.world import PositionValues
 from netrev.messages import session as messages
+from netrev.recording.cell_meanings import absent_words, dump_words, in_words
 from netrev.recording.changes import RecordedChanges
 from netrev.recording.recording import NotARecordingError, Recording
 from netrev.recording.waits import Name
-from netrev.recording.cell_meanings import absent_words, dump_words, in_words
 from netrev.system.interrupts import Interrupts, SearchInterruptedError, SessionAbandonedError
 from netrev.text.text_files import lines_of_script
 from netrev.text.vocabulary import cell_of
@@ -42,7 +42,7 @@ from .queries import answer_run, runs_of
 
 STOPPING = ("continue", "reverse-continue", "resume")
 NESTED = 8
-Answering = Callable[["Session", list[str]], Optional[bool]]  # False if the session has ended
+Answering = Callable[["Session", list[str]], bool | None]  # False if the session has ended
 
 
 @dataclass
@@ -50,8 +50,8 @@ class Session:
     """The state of a session."""
 
     netrev: Netrev
-    recording: Optional[Recording]
-    scout: Optional[Scout]
+    recording: Recording | None
+    scout: Scout | None
     printer: Printer
     interrupts: Interrupts
     answers: Mapping[str, Answering]
@@ -63,10 +63,10 @@ class Session:
     program: str = ""  # netrev's program, and the recording's file, if known
     path: str = ""
     breaks: Breaks = field(default_factory=Breaks)  # breaks at lines and functions of the program
-    frame: Optional[int] = None  # the stack's frame, counted from the innermost; None for the program's own line
+    frame: int | None = None  # the stack's frame, counted from the innermost; None for the program's own line
     is_before: bool = False  # whether the stack is that of the next step, because a break stopped the move
-    goroutine: Optional[Name] = None  # the chosen goroutine, until the session moves
-    recorded: Optional[RecordedChanges] = None  # None if the session has no recording
+    goroutine: Name | None = None  # the chosen goroutine, until the session moves
+    recorded: RecordedChanges | None = None  # None if the session has no recording
     errors: int = 0  # the number of nrdb's own errors
     conditions: dict[str, Condition] = field(default_factory=dict)  # conditions of marks, keyed by the marks' numbers
     latest: str = ""  # the number of the mark set last
@@ -225,7 +225,7 @@ class Session:
         """The marks that were hit, except marks with a condition that isn't true at the session's position."""
         return [mark for mark in marks if mark not in self.conditions or self.holds(self.conditions[mark])]
 
-    def holds(self, condition: Condition, position: Optional[int] = None) -> bool:
+    def holds(self, condition: Condition, position: int | None = None) -> bool:
         """Whether a condition is true at a position, by default at the session's."""
         cell = condition.cell
         value = self.netrev.values([cell])[0] if position is None else self.changes().value(cell, position)

@@ -3,14 +3,14 @@
 import json
 import re
 import unicodedata
-from typing import Any, Optional
+from typing import Any
 
 from netrev.messages import texts as messages
 from netrev.recording.answers import spelled
 from netrev.recording.recording import Recording
 from netrev.text.vocabulary import (
-    HEADERS,
     HEADER_EXAMPLE,
+    HEADERS,
     KINDS,
     MOST,
     VERSIONS,
@@ -158,7 +158,7 @@ def arguments_hint(value: list[Any]) -> str:
     return f"{kind.usage}: " + "; ".join(filter(None, wrong))
 
 
-def argument_hint(kind: Kind, name: str, given: Any) -> Optional[str]:
+def argument_hint(kind: Kind, name: str, given: Any) -> str | None:
     """A description of what is wrong with an argument; None if the argument is valid."""
     how = written(kind, name)
     if is_written(how, given):

@@ -1,8 +1,8 @@
 """Turns garbage collection off during a pass over as many as a million steps."""
 
 import gc
+from collections.abc import Iterator
 from contextlib import contextmanager
-from typing import Iterator
 
 
 @contextmanager

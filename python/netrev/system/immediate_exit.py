@@ -3,8 +3,8 @@
 import atexit
 import os
 import sys
+from collections.abc import Callable
 from contextlib import suppress
-from typing import Callable
 
 
 def ended_by(main: Callable[[], int]) -> None:

@@ -2,8 +2,8 @@
 between two queries. A second Ctrl-C while netrev doesn't answer ends the session."""
 
 import signal
+from collections.abc import Callable, Iterator
 from contextlib import contextmanager
-from typing import Callable, Iterator
 
 from netrev.errors import NetrevError
 

@@ -4,7 +4,6 @@ import os
 import shutil
 import sys
 from pathlib import Path
-from typing import Optional
 
 HERE = Path(__file__).resolve().parents
 BUILT = HERE[3] / "crates/netrev/out/netrev"
@@ -20,7 +19,7 @@ def is_launcher(path: Path) -> bool:
         return LAUNCHER in file.read(4096)
 
 
-def on_the_path() -> Optional[str]:
+def on_the_path() -> str | None:
     """The first netrev on the PATH that isn't a launcher."""
     for folder in os.environ.get("PATH", os.defpath).split(os.pathsep):
         found = shutil.which("netrev", path=folder) if folder else None
@@ -29,7 +28,7 @@ def on_the_path() -> Optional[str]:
     return None
 
 
-def netrev_program() -> Optional[str]:
+def netrev_program() -> str | None:
     """The program that NETREV names. By default, it is the program that was built here, the program that is installed
     beside the running program, or another installed netrev, in this order."""
     beside = Path(sys.argv[0]).resolve().with_name("netrev")

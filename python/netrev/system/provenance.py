@@ -3,12 +3,11 @@
 import hashlib
 import os
 from pathlib import Path
-from typing import Optional
 
 from netrev.text.plain import plain
 
-from .program_path import BUILT, INSTALLED
 from .command_lines import PACKAGES, how_to_get_netrev
+from .program_path import BUILT, INSTALLED
 
 PROVED = (
     PACKAGES / "proved.txt"
@@ -16,7 +15,7 @@ PROVED = (
 UNKNOWN = "not recorded for this program"
 
 
-def program_lines(program: Optional[str]) -> list[str]:
+def program_lines(program: str | None) -> list[str]:
     """The facts about netrev's program."""
     if not program or not Path(program).is_file():
         return [f"netrev's program is missing: {how_to_get_netrev('NETREV or --netrev')}"]

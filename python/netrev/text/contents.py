@@ -2,7 +2,8 @@
 
 from __future__ import annotations
 
-from typing import Any, NamedTuple, Optional, Sequence
+from collections.abc import Sequence
+from typing import Any, NamedTuple
 
 Step = tuple[Any, ...]  # the kind, then the arguments
 Answer = tuple[Any, ...]  # the name, and for some answers a number
@@ -25,4 +26,4 @@ class Contents(NamedTuple):
     version: int
     limits: Limits
     steps: Sequence[Step]
-    answers: Sequence[Optional[Answer]]
+    answers: Sequence[Answer | None]

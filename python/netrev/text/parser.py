@@ -2,13 +2,15 @@
 
 import re
 from functools import lru_cache
-from typing import Any, Optional
+from typing import Any
 
 from netrev.errors import NetrevError
 
 from .contents import GREATEST_TIME, Answer, Contents, Limits, Step
 from .jsontext import NotJsonError, read_json
-from .vocabulary import HEADERS, KINDS as OF_NRDB, VERSIONS, Kind, is_answer
+from .vocabulary import HEADERS
+from .vocabulary import KINDS as OF_NRDB
+from .vocabulary import VERSIONS, Kind, is_answer
 
 LONGEST_LINE = 200_000
 MOST_STEPS = 1_000_000
@@ -87,7 +89,7 @@ def read_header(line: bytes) -> tuple[int, Limits]:
     return version, limits
 
 
-def step_of(version: int, value: Any) -> tuple[Step, Optional[Answer]]:
+def step_of(version: int, value: Any) -> tuple[Step, Answer | None]:
     """The step in a line, and its recorded answer, which is None in version 1."""
     if not isinstance(value, list) or not value or not isinstance(value[0], str) or value[0] not in KINDS[version]:
         raise LineFaultError("103 unknown step")
@@ -111,7 +113,7 @@ def read_text(text: bytes) -> Contents:
     """The Recording in a text, or the Fault of its first faulty line."""
     version, limits = 0, None
     steps: list[Step] = []
-    answers: list[Optional[Answer]] = []
+    answers: list[Answer | None] = []
     for number, line in enumerate(text.split(b"\n"), 1):
         try:
             if len(line) > LONGEST_LINE:

@@ -1,8 +1,6 @@
 """A number with its noun."""
 
-from typing import Optional
 
-
-def counted(number: int, noun: str, plural: Optional[str] = None) -> str:
+def counted(number: int, noun: str, plural: str | None = None) -> str:
     """A number with its noun, such as `1 reference` or `2 references`."""
     return f"{number} {noun if number == 1 else plural or noun + 's'}"

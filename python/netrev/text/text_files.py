@@ -3,7 +3,6 @@
 import os
 import stat
 from pathlib import Path
-from typing import Optional
 
 from .files import check_name
 
@@ -17,7 +16,7 @@ def lines_of_script(path: str) -> list[str]:
     return Path(path).read_text(encoding="utf-8", errors="surrogateescape").splitlines()
 
 
-def lines_of(path: Path) -> Optional[list[str]]:
+def lines_of(path: Path) -> list[str] | None:
     """The lines of a file; None if the file can't be read or isn't text."""
     try:
         status = os.stat(path)

@@ -2,9 +2,9 @@
 reasons, faults and the header's keys. docs/internals/MACHINE.md, docs/reference/RECORDING.md and
 docs/reference/COMMANDS.md explain them."""
 
+from collections.abc import Sequence
 from dataclasses import dataclass
 from enum import Enum
-from typing import Optional, Sequence
 
 MOST = 4_294_967_295
 MOST_LINE = 256
@@ -220,7 +220,7 @@ REASONS = (
 )
 
 
-def cell_of(words: Sequence[str]) -> Optional[str]:
+def cell_of(words: Sequence[str]) -> str | None:
     """The cell that the words name, spelled as in replies, or None."""
     cell = CELLS.get(words[0]) if words else None
     if cell is None:
@@ -231,7 +231,7 @@ def cell_of(words: Sequence[str]) -> Optional[str]:
     return None if number is None else f"{cell.name} {number}"
 
 
-def number_of(word: str) -> Optional[int]:
+def number_of(word: str) -> int | None:
     """The number that a word means, or None."""
     digits = word.lstrip("0") or word[:1]
     if not (word.isascii() and word.isdigit()) or len(digits) > len(str(MOST)):  # int() rejects 4,301 digits
@@ -240,7 +240,7 @@ def number_of(word: str) -> Optional[int]:
     return number if number <= MOST else None
 
 
-def break_of(words: Sequence[str]) -> Optional[str]:
+def break_of(words: Sequence[str]) -> str | None:
     """The target of a break that the words name, spelled as in `info breakpoints`: a kind, or `@` and a step. None if
     the words name neither."""
     if len(words) != 1:

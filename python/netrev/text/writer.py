@@ -1,7 +1,6 @@
 """Recordings as text, in netrev's own form."""
 
 import json
-from typing import Optional
 
 from .contents import Answer, Contents, Step
 
@@ -15,7 +14,7 @@ def json_answer(answer: Answer) -> object:
     return answer[0] if len(answer) == 1 else list(answer)
 
 
-def line_of(step: Step, answer: Optional[Answer]) -> str:
+def line_of(step: Step, answer: Answer | None) -> str:
     """A step as a line of compact JSON, with its recorded answer, if any."""
     parts = [part.hex() if isinstance(part, bytes) else part for part in step]
     return json.dumps(parts + ([json_answer(answer)] if answer else []), separators=(",", ":"))

@@ -7,10 +7,10 @@ from array import array
 from base64 import b64encode
 from math import inf
 from operator import sub
-from typing import Any, Optional
+from typing import Any
 
-from netrev.findings.evidence.waiters import is_waiting
 from netrev.findings.evidence.call_words import is_by_go, name_of, short
+from netrev.findings.evidence.waiters import is_waiting
 from netrev.recording.call import Call, Outcome
 from netrev.recording.recording import Recording
 from netrev.recording.where import OF_THE_PROGRAM, Stack
@@ -99,7 +99,7 @@ class CallColumns:
         self._recording, self._index = recording, run_of(recording)
         self._lines: dict[int, int] = {}  # the lines of stacks
         self._stacks: dict[int, int] = {}
-        self._known: dict[tuple[str, Optional[int], int], tuple[int, ...]] = {}
+        self._known: dict[tuple[str, int | None, int], tuple[int, ...]] = {}
 
     def of(self, call: Call) -> tuple[int, ...]:
         """The name, the result, the line, the state and the stack of a call. Many calls that succeeded have the same
@@ -160,7 +160,7 @@ def names_data(recording: Recording, window: Window) -> dict[int, str]:
     return names
 
 
-def runs_in(stack: Stack, of: Optional[str] = None) -> Optional[str]:
+def runs_in(stack: Stack, of: str | None = None) -> str | None:
     """The outermost function in a stack; with `of`, the outermost function of that kind. The compiler's wrapper of a
     `go` or `defer` statement doesn't count."""
     functions = (call.function for call in reversed(stack.calls) if of in (None, call.of))

@@ -1,9 +1,9 @@
 """The values of each cell over the positions, from netrev's changes at each step. Queues aren't cells; they are derived
 from the statuses of the goroutines in them."""
 
+from collections.abc import Iterable, Iterator
 from dataclasses import dataclass
 from functools import partial
-from typing import Iterable, Iterator
 
 from netrev.connection.netrev import Netrev
 from netrev.connection.scout import Scout

@@ -1,8 +1,8 @@
 """The events of a trace other than statuses and steps: Go's calls, the deadlines, the clock, and what went wrong. The
 events begin where the recording begins."""
 
+from collections.abc import Iterator
 from itertools import chain
-from typing import Iterator
 
 from netrev.connection.beginnings import begins_at
 from netrev.connection.scout import Scout
@@ -14,9 +14,9 @@ from netrev.text.plain import plain
 
 from .calls import Data, shown_calls
 from .cell_runs import Window
-from .trace_events import DEADLINES, GOROUTINES, NETWORK, Event, event_of, of_json
 from .searched_cells import DEADLINES_AND_CLOCK, by_cell, searched
 from .stories import stories_data
+from .trace_events import DEADLINES, GOROUTINES, NETWORK, Event, event_of, of_json
 
 SIDES = {"rd": "read", "wd": "write"}
 Changed = list[tuple[int, str]]  # the steps that change a cell, each with the new value

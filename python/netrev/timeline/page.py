@@ -3,7 +3,7 @@
 import json
 import sys
 from pathlib import Path
-from typing import Any, Optional
+from typing import Any
 
 from netrev.connection.beginnings import begins_at
 from netrev.connection.netrev import Own
@@ -14,8 +14,8 @@ from netrev.recording.suspect_list import SuspectList
 from netrev.run.changes import read_with_changes
 from netrev.session.files import writing
 from netrev.session.session import Session, UsageError
-from netrev.system.interrupts import Interrupts
 from netrev.system.garbage_collection import take_all_as_kept, without_collections
+from netrev.system.interrupts import Interrupts
 from netrev.text.plain import plain
 
 from .calls import Data
@@ -44,7 +44,7 @@ SCRIPTS = (
 )
 
 
-def write_timeline(session: Session, path: str, first: Optional[int] = None, last: Optional[int] = None) -> str:
+def write_timeline(session: Session, path: str, first: int | None = None, last: int | None = None) -> str:
     """Writes the page, and returns the line that reports it."""
     recording = session.text()
     window = None
@@ -58,7 +58,7 @@ def write_timeline(session: Session, path: str, first: Optional[int] = None, las
     return f"{path}: positions {data['first']} to {data['last']}, {len(data['cells'])} cells; {data['calls']['count']} calls"
 
 
-def write_page(shown: PageSources, path: str, window: Optional[Window] = None) -> Data:
+def write_page(shown: PageSources, path: str, window: Window | None = None) -> Data:
     """Writes the page, and returns its data."""
     with without_collections():
         data = collected(shown, window)
@@ -69,7 +69,7 @@ def write_page(shown: PageSources, path: str, window: Optional[Window] = None) -
     return data
 
 
-def write_page_beside(program: str, path: str, recording: Optional[Recording] = None) -> str:
+def write_page_beside(program: str, path: str, recording: Recording | None = None) -> str:
     """Writes the page beside a recording, without a session, and returns the page's path. `recording` is the file's text
     with netrev's changes, if they are known. Raises an OSError or a NetrevError if that fails."""
     interrupts, beside = Interrupts(), str(Path(path).with_suffix(".html"))

@@ -1,23 +1,24 @@
 """The contents of a page: the calls and failures of the whole run, and netrev's values of each cell for a part of the
 run."""
 
+from collections.abc import Callable
 from pathlib import Path
-from typing import Any, Callable, NamedTuple, Optional
+from typing import Any, NamedTuple
 
 from netrev.connection.beginnings import begins_at
 from netrev.connection.scout import Scout
 from netrev.connection.shapes import ListedMark
+from netrev.recording.cell_meanings import in_words
 from netrev.recording.changes import RecordedChanges
 from netrev.recording.recording import Recording, shortened
-from netrev.recording.cell_meanings import in_words
 from netrev.session.session import Session
 from netrev.text.vocabulary import CELLS
 
 from .calls import Data, calls_data, names_data
 from .cell_runs import Runs, Window, runs_of
+from .page_data import MOST_TIMES, Connections, lines_data, marks_of, ticks_of, times_of, wakes_of
 from .shades import SHADES, shade
 from .stories import stories_data
-from .page_data import MOST_TIMES, Connections, lines_data, marks_of, ticks_of, times_of, wakes_of
 from .waits import requests_data, waits_data
 
 MOST = 20_000  # the maximum number of steps in a part
@@ -53,7 +54,7 @@ class PageSources(NamedTuple):
         self.tell(f"the picture, {stage + 1} of {len(STAGES)}: {STAGES[stage]}")
 
 
-def collected(shown: PageSources, window: Optional[Window] = None) -> Data:
+def collected(shown: PageSources, window: Window | None = None) -> Data:
     """The contents of the page: the calls and stories of the whole run, and each cell's values for a part of the run.
     If no part is given, `part_around` chooses the part: the whole run or, in a long recording, the steps near the first
     story or the session's position."""

@@ -2,7 +2,7 @@
 and other lines aren't parsed."""
 
 import re
-from typing import Iterator
+from collections.abc import Iterator
 
 from netrev.recording.changes import RecordedChanges
 

@@ -1,7 +1,7 @@
 """The steps of a short recording as a sequence diagram in Mermaid, which code hosts draw: goroutines, sockets and the
 network, with a message for each step."""
 
-from typing import Iterator, Optional
+from collections.abc import Iterator
 
 from netrev.recording.recording import Recording, Step
 from netrev.run.index import run_of
@@ -15,7 +15,7 @@ NETWORK = "net"
 PLAIN = frozenset(" .,-_/*()'+=")  # characters allowed besides letters and digits; Mermaid interprets all others
 
 
-def sequence(recording: Recording, story: Optional[Data]) -> str:
+def sequence(recording: Recording, story: Data | None) -> str:
     """The diagram, with notes at a story's steps; empty if the recording has too many steps."""
     if recording.length > MOST:
         return ""
@@ -29,7 +29,7 @@ def spelled(text: str) -> str:
     )
 
 
-def _lines(recording: Recording, story: Optional[Data]) -> Iterator[str]:
+def _lines(recording: Recording, story: Data | None) -> Iterator[str]:
     run = run_of(recording)
     names = names_data(recording, Window(0, recording.length))
     yield from (

@@ -1,8 +1,8 @@
 """The stories of the page: the suspects with their steps. If there are no suspects, there is a story for each call that
 hangs or has failed, with its cause. Rules and causes are nrdb's own; the values shown with them are netrev's."""
 
+from collections.abc import Iterator
 from itertools import islice
-from typing import Iterator
 
 from netrev.connection.scout import Scout
 from netrev.findings.causes.failed_calls import cause_of, failed_at

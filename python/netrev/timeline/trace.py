@@ -9,10 +9,11 @@ goroutines are compared with netrev's answers. Calls and suspects are nrdb's own
 import gzip
 import io
 from collections import Counter
+from collections.abc import Callable, Iterator
 from contextlib import contextmanager
 from itertools import chain, islice, repeat
 from pathlib import Path
-from typing import IO, Any, Callable, Iterator, Optional, cast
+from typing import IO, Any, cast
 
 from netrev.connection.beginnings import begin_words, begins_at
 from netrev.connection.scout import Scout
@@ -27,9 +28,9 @@ from netrev.text.vocabulary import OF_A_GOROUTINE
 
 from .calls import names_data
 from .cell_runs import Window
-from .trace_events import GOROUTINES, NETWORK, Event, of_json
 from .other_trace_events import beside
 from .searched_cells import STATUSES, STATUSES_AND_CLOCK, searched
+from .trace_events import GOROUTINES, NETWORK, Event, of_json
 
 COMPARED = 64  # the number of positions at which statuses are compared
 POLLER, TIMERS, CLOCK = range(3)  # threads of the second process, before the sockets
@@ -152,12 +153,12 @@ class Tracing:
         if self._since:
             yield [self._status(g, self._statuses[g], self.recording.length + 1) for g in sorted(self._since)]
 
-    def _step_parts(self, values: list[Any]) -> tuple[Optional[int], str, str, str]:
+    def _step_parts(self, values: list[Any]) -> tuple[int | None, str, str, str]:
         """The parts of a step's line: the step's goroutine, its thread in the trace, the text up to the time, and the
         text up to the number."""
         words = values[:-1] if self._has_answers else values
         kind = words[0]
-        mine: Optional[int] = words[1] if kind in BY_A_GOROUTINE else None
+        mine: int | None = words[1] if kind in BY_A_GOROUTINE else None
         process, thread = (GOROUTINES, mine) if mine is not None else (NETWORK, _thread(kind, words[1:]))
         text = " ".join(map(str, words))
         if len(text) > SHOWN:
@@ -193,7 +194,7 @@ class Tracing:
                 self._since[g] = self.begins
 
     def _statuses_change(
-        self, number: int, mine: Optional[int], where: str, statuses: Statuses, events: list[str]
+        self, number: int, mine: int | None, where: str, statuses: Statuses, events: list[str]
     ) -> None:
         """Adds the slices that end at a step, and the flows from it."""
         known, order = self._statuses, list(statuses)

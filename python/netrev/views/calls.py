@@ -1,7 +1,8 @@
 """`steps` and `calls`: what a goroutine did, what happened to a socket or a descriptor, and all steps of a kind. The
 module also finds the destinations of `next` and `finish`."""
 
-from typing import Callable, Iterator, NamedTuple, Optional
+from collections.abc import Callable, Iterator
+from typing import NamedTuple
 
 from netrev.connection.output import Row, Table
 from netrev.errors import NetrevError
@@ -32,7 +33,7 @@ class Subject(NamedTuple):
         return self.name in SUBJECTS
 
     @classmethod
-    def of(cls, words: list[str]) -> Optional[tuple["Subject", list[str]]]:
+    def of(cls, words: list[str]) -> tuple["Subject", list[str]] | None:
         """The subject at the beginning of these words, and the words after it; None if the words don't begin with a
         subject."""
         number = number_of(words[1]) if len(words) > 1 else None
@@ -46,7 +47,7 @@ class Subject(NamedTuple):
         return not self.name or numbers[self.name] == self.number
 
 
-def steps_table(recording: Recording, subject: Subject, position: int, most: Optional[int]) -> Table:
+def steps_table(recording: Recording, subject: Subject, position: int, most: int | None) -> Table:
     """The last steps of the subject up to the position: at most `most` steps, or all if `most` is None."""
     found = list(_numbers(recording, subject, position))
     shown = found if most is None else found[-most:]
@@ -84,7 +85,7 @@ def _rest(count: int, shown: int, name: str, line: str, subject: Subject, positi
     return "" if count else f"no {name} of {subject} up to position {position}"
 
 
-def calls_table(recording: Recording, subject: Subject, position: int, most: Optional[int]) -> Table:
+def calls_table(recording: Recording, subject: Subject, position: int, most: int | None) -> Table:
     """The subject's calls that began at or before the position. If there are more than `most`, only the last ones."""
     found = [call for call in run_of(recording).calls if call.first <= position and subject.has(call)]
     shown = found if most is None else found[-most:]
@@ -121,7 +122,7 @@ class Goal(NamedTuple):
     """The position at which a move ends. If the move covers a whole call, `call` is that call."""
 
     position: int
-    call: Optional[Call] = None
+    call: Call | None = None
 
 
 def goroutine_at(recording: Recording, position: int) -> int:

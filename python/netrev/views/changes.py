@@ -1,14 +1,14 @@
 """The changes of cells: `history CELL`, the changes at which a watch hits, and those that the last step made to goroutines,
 sockets, descriptors, the clock and the counts."""
 
+from collections.abc import Collection, Iterator, Sequence
 from itertools import islice
-from typing import Collection, Iterator, Optional, Sequence
 
 from netrev.connection.output import Row, Table, Values
 from netrev.connection.shapes import ListedMark
+from netrev.recording.cell_meanings import in_words
 from netrev.recording.changes import RecordedChanges, value_at_start
 from netrev.recording.recording import Recording
-from netrev.recording.cell_meanings import in_words
 from netrev.run.timers import timer_words, timers_beside
 from netrev.text.vocabulary import CELLS, Of
 
@@ -19,7 +19,7 @@ NOTHING = "changed: nothing that a cell shows"
 
 
 def history_table(
-    changes: RecordedChanges, recording: Recording, cell: str, position: int, most: Optional[int] = MOST
+    changes: RecordedChanges, recording: Recording, cell: str, position: int, most: int | None = MOST
 ) -> Table:
     """The last changes of the cell up to the position: at most `most` changes, or all if `most` is None."""
     found = list(islice(changes.back(cell, position), None if most is None else most + 1))
@@ -76,7 +76,7 @@ def tables_beside(
         yield changed
 
 
-def changed_table(changes: RecordedChanges, position: int, watched: Collection[str] = ()) -> Optional[Table]:
+def changed_table(changes: RecordedChanges, position: int, watched: Collection[str] = ()) -> Table | None:
     """One line with the changes made by the step that led to the position, without the changes that were printed
     already; None at the start."""
     if not position:

@@ -1,6 +1,6 @@
 """The place of a goroutine at a position: its stack, the step at which it got this stack, and what it does."""
 
-from typing import NamedTuple, Optional
+from typing import NamedTuple
 
 from netrev.recording.recording import Recording
 from netrev.recording.waits import Name, waits_of
@@ -25,7 +25,7 @@ class GoroutineStack(NamedTuple):
         return f"{self.name}{f' (goid {self.goid})' if self.goid else ''}: {self.does}{at}"
 
 
-def stack_of(recording: Recording, name: Name, position: int) -> Optional[GoroutineStack]:
+def stack_of(recording: Recording, name: Name, position: int) -> GoroutineStack | None:
     """The stack of a goroutine at a position; None if the recording has neither a step nor a wait of the goroutine
     before that position."""
     wait = waits_of(recording).at(name, position)

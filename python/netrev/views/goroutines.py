@@ -2,15 +2,16 @@
 poller or elsewhere. This is usually the first query when a program hangs, so a lock is read only once even if a
 thousand goroutines wait for it."""
 
+from collections.abc import Callable, Hashable, Iterable, Mapping
 from functools import cached_property
-from typing import Any, Callable, Hashable, Iterable, Mapping, NamedTuple, Optional
+from typing import Any, NamedTuple
 
 from netrev.connection.output import Row, Table
 from netrev.connection.world import PositionValues
+from netrev.recording.cell_meanings import DOING, SIDES, LockWord, status_words
 from netrev.recording.recording import Step
 from netrev.recording.waits import Name, ObjectWait, of_names, waits_of
 from netrev.recording.where import Stack
-from netrev.recording.cell_meanings import DOING, SIDES, LockWord, status_words
 from netrev.run.index import run_of
 from netrev.run.searches import Lock
 from netrev.text.plurals import counted
@@ -40,7 +41,7 @@ class LockQueue:
         return LockWord.of(self._world.number(f"lock {self._socket}"))
 
     @cached_property
-    def taking(self) -> Optional[Step]:
+    def taking(self) -> Step | None:
         """The step that took the lock."""
         lock = self._socket, self._side
         return run_of(self._world.recording).takings([lock], self._world.position).get(lock)
@@ -51,7 +52,7 @@ class LockQueue:
         return self.word.read_locked if self._side == "r" else self.word.write_locked
 
 
-def lock_of(status: str) -> Optional[Lock]:
+def lock_of(status: str) -> Lock | None:
     """The lock that a goroutine with this status waits for; None if it doesn't wait for a lock."""
     name, *rest = status.split()
     return (int(rest[0]), rest[1]) if name in ("acquiring", "queued", "relock") else None
@@ -74,7 +75,7 @@ class TableRow(NamedTuple):
 
     name: Name
     row: Row
-    lock: Optional[Lock] = None
+    lock: Lock | None = None
     common: tuple[str, ...] = ()
 
 
@@ -166,7 +167,7 @@ class TableWaits:
         return [*facts, WaitFact(f"deadline at {deadline}, now it is {world.value('clock')}", "deadlines to come")]
 
 
-def goroutines_table(world: PositionValues, numbers: Optional[Iterable[int]] = None, is_all: bool = False) -> Table:
+def goroutines_table(world: PositionValues, numbers: Iterable[int] | None = None, is_all: bool = False) -> Table:
     """The table of the goroutines that do something or wait, of all goroutines, or of the goroutines with these
     numbers. Waiting goroutines without a step in the recording come last."""
     every = list(range(world.count(Of.GOROUTINE)) if numbers is None else numbers)

@@ -1,6 +1,6 @@
 """`info sockets`, `info descriptors`, `info timers` and `info holders`: the values of each."""
 
-from typing import Iterable, Optional
+from collections.abc import Iterable
 
 from netrev.connection.output import Row, Table, Values
 from netrev.connection.world import PositionValues
@@ -14,7 +14,7 @@ SOCKET_CELLS = ("lock", "rsem", "wsem", "in", "out", "shut")
 DESCRIPTOR_CELLS = ("info", "rg", "wg", "rd", "wd", "fdseq")
 
 
-def sockets_table(world: PositionValues, numbers: Optional[Iterable[int]] = None, is_all: bool = False) -> Table:
+def sockets_table(world: PositionValues, numbers: Iterable[int] | None = None, is_all: bool = False) -> Table:
     """The table of the sockets that aren't at rest, of all sockets, or of the sockets with these numbers."""
     every = list(range(world.count(Of.SOCKET)) if numbers is None else numbers)
     cells = world.of_each(every, *SOCKET_CELLS)
@@ -37,7 +37,7 @@ def _has_meaning(values: list[str], queues: list[list[int]]) -> bool:
     return word.references > 0 or any(queues) or (not word.closed and values[3] != "0")
 
 
-def _socket_row(number: int, values: list[str], queues: list[list[int]], descriptor: Optional[int]) -> Row:
+def _socket_row(number: int, values: list[str], queues: list[list[int]], descriptor: int | None) -> Row:
     named = dict(zip(SOCKET_CELLS, values))
     row_values = {"socket": number, **named, "rq": queues[0], "wq": queues[1], "descriptor": descriptor}
     if named["lock"] == "absent":
@@ -52,7 +52,7 @@ def _socket_row(number: int, values: list[str], queues: list[list[int]], descrip
     return Row(row_values, f"sock {number:<3} {'; '.join(parts)}")
 
 
-def descriptors_table(world: PositionValues, numbers: Optional[Iterable[int]] = None, is_all: bool = False) -> Table:
+def descriptors_table(world: PositionValues, numbers: Iterable[int] | None = None, is_all: bool = False) -> Table:
     """The table of the open descriptors, of all descriptors, or of the descriptors with these numbers."""
     sockets = world.sockets_of_open()
     every = list(range(world.count(Of.DESCRIPTOR)) if numbers is None else numbers)
@@ -70,7 +70,7 @@ def rest_words(every: list[int], left: int, name: str, all_of_them: str) -> str:
     return f"{left} {all_of_them}" if left else ""
 
 
-def _descriptor_row(number: int, values: list[str], socket: Optional[int]) -> Row:
+def _descriptor_row(number: int, values: list[str], socket: int | None) -> Row:
     named = dict(zip(DESCRIPTOR_CELLS, values))
     row_values: Values = {"descriptor": number, "open": socket is not None, "socket": socket, **named}
     if named["info"] == "absent":

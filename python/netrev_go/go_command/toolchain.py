@@ -58,7 +58,11 @@ def find_go() -> Go:
         raise RecorderError(messages.GO_ENV_FAILED.format(why=run.stderr.strip()))
     variables = json.loads(run.stdout)
     go = Go(
-        program, pathlib.Path(variables["GOROOT"]), variables["GOVERSION"], f"{variables['GOOS']}/{variables['GOARCH']}", variables["GOFLAGS"]
+        program,
+        pathlib.Path(variables["GOROOT"]),
+        variables["GOVERSION"],
+        f"{variables['GOOS']}/{variables['GOARCH']}",
+        variables["GOFLAGS"],
     )
     if go.system != "linux/amd64":
         raise RecorderError(messages.OTHER_SYSTEM.format(system=go.system))

@@ -288,7 +288,9 @@ class Passing:
         keys, objects = self._keys, objects_of(what, at, b, c)
         if not any([thing.address in keys for thing in objects]):  # (as nearly always)
             return objects
-        return tuple([At(keys.get(thing.address, thing.address), thing.use) if thing.use else thing for thing in objects])
+        return tuple(
+            [At(keys.get(thing.address, thing.address), thing.use) if thing.use else thing for thing in objects]
+        )
 
     def _parks(self, point: Point, step: int, time: int) -> None:
         """Records that a goroutine begins to wait. If it is already waiting, the log was damaged, and the earlier wait lasts to the end."""
@@ -360,7 +362,9 @@ def goroutines_of(
     found = passing.all()
     if holders is not None:
         found.held = [
-            LoggedMutex(holder.address, holder.goroutine, holder.is_reader, holder.stack, steps[index - 1][2] if index else 0)
+            LoggedMutex(
+                holder.address, holder.goroutine, holder.is_reader, holder.stack, steps[index - 1][2] if index else 0
+            )
             for holder in holders
             for index in [bisect_left(steps, holder.passed, key=itemgetter(0))]
         ]

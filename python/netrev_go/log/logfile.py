@@ -14,8 +14,8 @@ from array import array
 from collections.abc import Callable, Iterable
 from functools import lru_cache, partial
 from itertools import accumulate, compress, takewhile
-from typing import BinaryIO, cast
 from operator import xor
+from typing import BinaryIO, cast
 
 from netrev.errors import NetrevError
 from netrev.messages import recorder as messages

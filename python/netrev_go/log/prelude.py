@@ -34,7 +34,27 @@ from netrev.machine.machine import SIDES, StepRefusedError
 from netrev.text.contents import GREATEST_TIME, Limits
 from netrev.text.vocabulary import KINDS
 
-from .notes import ARMED, CHECKING, CLOSING, ENTERING, EVENT_ERROR, GOROUTINE, NIL, PARKED, PARKING, READING, READY, REFERENCES, SHUT, SWAPPING, UNQUEUED, WAIT, WAITING, WRITING, Note  # fmt: skip
+from .notes import (  # fmt: skip
+    ARMED,
+    CHECKING,
+    CLOSING,
+    ENTERING,
+    EVENT_ERROR,
+    GOROUTINE,
+    NIL,
+    PARKED,
+    PARKING,
+    READING,
+    READY,
+    REFERENCES,
+    SHUT,
+    SWAPPING,
+    UNQUEUED,
+    WAIT,
+    WAITING,
+    WRITING,
+    Note,
+)
 
 NOBODY = 0  # the goroutine for steps that no known goroutine made
 BOTH = (READING, WRITING)

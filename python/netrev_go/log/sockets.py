@@ -12,7 +12,8 @@ from collections.abc import Callable
 from dataclasses import dataclass, field
 from operator import itemgetter
 
-from .notes import NAMED as NOTED_NAMED, NOTED, Debts, Note
+from .notes import NAMED as NOTED_NAMED
+from .notes import NOTED, Debts, Note
 from .points import AT_A_SOCKET, AT_A_WORD, GOROUTINE, LOCKING, NOTING, NUMBER, Point, PointKind
 from .prelude import Lead, UnreachableStateError, led
 

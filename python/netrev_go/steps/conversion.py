@@ -18,10 +18,9 @@ from netrev_go.log.goroutines import Goroutines
 from netrev_go.log.lines import Calls, SourceRoots, lines_of
 from netrev_go.log.logfile import NotALogError, read_log
 from netrev_go.log.points import Log
-from netrev_go.log.tests_in_log import Ran, Tests, of_log
 from netrev_go.log.sockets import MOST_MEGABYTES, MOST_SOCKETS
+from netrev_go.log.tests_in_log import Ran, Tests, of_log
 
-from .scopes_of_tests import goroutines_of, sockets_of
 from .goroutine_lines import Everybody, kept
 from .recording_builder import (
     NewRecording,
@@ -34,6 +33,7 @@ from .recording_builder import (
     write_words,
 )
 from .report import Conversion, Hear, report, unheard
+from .scopes_of_tests import goroutines_of, sockets_of
 from .where import STEPS_A_LINE, write_where
 
 PROCESS = re.compile(r"(\.\d+){1,2}(\.snapshot)?\Z")
@@ -79,7 +79,9 @@ def convert(
     writing is copied
     first."""
     try:
-        return converted(ReadLog(log, read_log(log, is_written), of_log(log)), name, go, options, known=known, hear=hear)
+        return converted(
+            ReadLog(log, read_log(log, is_written), of_log(log)), name, go, options, known=known, hear=hear
+        )
     except NotALogError as fault:
         return Conversion(False, [f"{plain(str(log))}: {fault}"])
 

@@ -13,11 +13,11 @@ from netrev.machine.deadlines import READING, WRITING, Deadlines
 from netrev.machine.machine import SIDES
 from netrev.machine.polling import deadline_of
 from netrev.messages import recorder as messages
-from netrev_go.log.point_answers import BROKEN_PIPE, UnconvertibleError, can_answer, mode_of, parts
-from netrev_go.log.socket_facts import OF_UNIX, Beside
 from netrev_go.log.orders import Made
+from netrev_go.log.point_answers import BROKEN_PIPE, UnconvertibleError, can_answer, mode_of, parts
 from netrev_go.log.points import LOCKING, Point, PointKind
 from netrev_go.log.prelude import NOBODY, Lead, passing
+from netrev_go.log.socket_facts import OF_UNIX, Beside
 from netrev_go.log.sockets import AGAIN, BUFFER, FEW_BYTES, LoggedSocket
 
 from .lead_ins import close_write, lead

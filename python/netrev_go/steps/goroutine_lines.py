@@ -9,10 +9,30 @@ from collections.abc import Callable, Iterable, Iterator
 from dataclasses import dataclass, field
 from itertools import compress
 
-from netrev_go.log.socket_facts import address_words
-
-from netrev_go.log.goroutines import ADDED, CONDITION, DONE, MUTEX, OF_A_WAIT_GROUP, OTHER, READ_LOCK, ROOM, SEMAPHORE, UNENDED, VALUE, WAIT_GROUP, WRITE_LOCK, LoggedDial, Goroutines, LoggedMutex, LoggedPark, UseSpan, LoggedTimer, Used  # fmt: skip
+from netrev_go.log.goroutines import (  # fmt: skip
+    ADDED,
+    CONDITION,
+    DONE,
+    MUTEX,
+    OF_A_WAIT_GROUP,
+    OTHER,
+    READ_LOCK,
+    ROOM,
+    SEMAPHORE,
+    UNENDED,
+    VALUE,
+    WAIT_GROUP,
+    WRITE_LOCK,
+    Goroutines,
+    LoggedDial,
+    LoggedMutex,
+    LoggedPark,
+    LoggedTimer,
+    Used,
+    UseSpan,
+)
 from netrev_go.log.lines import OF_GO, OF_THE_PROGRAM, Calls
+from netrev_go.log.socket_facts import address_words
 
 MOST = 2**16  # the greatest number of entries kept in each list: waits, uses of channels, timers, goroutines
 OTHERS = 4  # at most a quarter of them have ended when the log ends

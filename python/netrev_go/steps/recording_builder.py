@@ -12,23 +12,33 @@ from netrev.errors import NetrevError
 from netrev.messages import recorder as messages
 from netrev.text.files import whole
 from netrev.text.plurals import counted
-from netrev_go.log.point_answers import UnconvertibleError
-from netrev_go.log.socket_facts import Beside
 from netrev_go.log.goroutines import CONCERNED, Goroutines, goroutines_of
 from netrev_go.log.lifetimes import ENDS, Lifetimes, lifetimes_of
 from netrev_go.log.notes import spans
 from netrev_go.log.orders import Made, orders_of
+from netrev_go.log.point_answers import UnconvertibleError
 from netrev_go.log.points import AT_A_SOCKET, LOCKING, NOTING, ORDERING, Log, Point, PointKind
 from netrev_go.log.prelude import NOBODY
-
-from netrev_go.log.sockets import FEW_BYTES, MOST_GOROUTINES, MOST_MEGABYTES, MOST_SOCKETS, MOST_STEPS, POINT, Owned, LoggedSocket, chosen, lead_to, owned  # fmt: skip
+from netrev_go.log.socket_facts import Beside
+from netrev_go.log.sockets import (  # fmt: skip
+    FEW_BYTES,
+    MOST_GOROUTINES,
+    MOST_MEGABYTES,
+    MOST_SOCKETS,
+    MOST_STEPS,
+    POINT,
+    LoggedSocket,
+    Owned,
+    chosen,
+    lead_to,
+    owned,
+)
 from netrev_go.log.times import times_of
 from netrev_go.log.waits import waits_of
 
 from .converter import Converter
 from .lead_ins import LatePreludeError
 from .zeros import Line
-
 
 LockWord = tuple[int, int, int]  # the step before, the socket, and the word
 

@@ -23,8 +23,8 @@ from netrev.findings.finding import (
 from netrev.messages import recorder as messages
 from netrev.recording import recording as library
 from netrev.recording.waits import Name
-from netrev.system.program_path import netrev_program
 from netrev.system.command_lines import command_line, file_word, how_to_get_netrev
+from netrev.system.program_path import netrev_program
 from netrev.system.time_limits import LateError
 from netrev.text.plain import plain
 from netrev.text.plurals import counted

@@ -7,8 +7,8 @@ from collections.abc import Iterable, Mapping
 
 from netrev_go.log.goroutines import Goroutines
 from netrev_go.log.points import Log, PointKind
-from netrev_go.log.tests_in_log import Ran
 from netrev_go.log.sockets import LoggedSocket, Owned
+from netrev_go.log.tests_in_log import Ran
 
 MADE = 1  # in a READY point: the goroutine started another one, instead of waking it
 

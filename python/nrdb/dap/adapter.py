@@ -1,7 +1,8 @@
 """The adapter: it answers an editor's requests one by one, from a session of nrdb."""
 
+from collections.abc import Callable, Sequence
 from contextlib import ExitStack, closing
-from typing import Callable, NamedTuple, Optional, Sequence
+from typing import NamedTuple
 
 from netrev.connection.beginnings import begin_words, begins_at
 from netrev.connection.errors import unexpected
@@ -18,13 +19,13 @@ from netrev.text.plain import plain
 from . import breakpoints, inspection
 from .message_reader import CANCEL, Source
 from .moves import Stop, text_of
+from .progress import Work
 from .target import DebugTarget, Launch
 from .view.capabilities import CAPABILITIES
 from .view.debuggee import debuggee
-from .view.presentation import maker_of, thread_of
 from .view.messages import Body, EditorGoneError, EditorStreams, Request, UnanswerableError
 from .view.numbering import Numbering
-from .progress import Work
+from .view.presentation import maker_of, thread_of
 
 CANCELLED, ENDS = "cancelled", "the editor ends the session"
 
@@ -39,7 +40,7 @@ class Response(NamedTuple):
     the end of the session."""
 
     body: Body = {}
-    stop: Optional[Stop] = None
+    stop: Stop | None = None
     event: str = ""
     ends: bool = False
 
@@ -50,7 +51,7 @@ class Adapter:
     def __init__(self, wire: EditorStreams, source: Source, program: str):
         self._wire, self._source, self._program = wire, source, program
         self._opened, self._interrupts, self._shows_progress = ExitStack(), Interrupts(), False
-        self._target_or_none: Optional[DebugTarget] = None
+        self._target_or_none: DebugTarget | None = None
         self._numbering = Numbering()
         of_target = self._of_target
         self._answers: dict[str, Callable[[Request], Response]] = {

@@ -5,6 +5,7 @@ token that nrdb printed."""
 import hmac
 import os
 import secrets
+
 from netrev.errors import NetrevError
 from netrev.messages import editors as texts
 

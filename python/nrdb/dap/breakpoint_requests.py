@@ -3,8 +3,9 @@ these depend only on the position, so they have the same effect in both directio
 
 import re
 from bisect import bisect_left
+from collections.abc import Sequence
 from dataclasses import dataclass
-from typing import NamedTuple, Optional, Sequence
+from typing import NamedTuple
 
 from netrev.errors import NetrevError
 from netrev.messages import editors as texts
@@ -61,8 +62,8 @@ class BreakpointRequest:
     count, and its message instead of a stop."""
 
     what: str
-    condition: Optional[Condition] = None
-    times: Optional[HitCount] = None
+    condition: Condition | None = None
+    times: HitCount | None = None
     message: str = ""
 
     def stops(self, session: Session, positions: Sequence[int]) -> list[int]:

@@ -4,12 +4,12 @@ from netrev.messages import editors as texts
 from netrev.text.plain import plain
 from netrev.text.vocabulary import KINDS
 
+from .breakpoint_requests import BreakpointError, BreakpointRequest, cell_wish, kind_wish, positions_of, wish_of
 from .go_lines import FUNCTIONS
 from .marks import BreakpointKind
 from .target import DebugTarget
 from .view.messages import Body, Request, UnanswerableError
 from .view.numbering import Numbering
-from .breakpoint_requests import BreakpointError, BreakpointRequest, cell_wish, kind_wish, positions_of, wish_of
 
 MOST_TARGETS = 1_000  # the maximum number of lines searched for steps
 
@@ -38,7 +38,9 @@ def of_steps(target: DebugTarget, path: str, wishes: list[BreakpointRequest | Br
         for breakpoint in wishes
     ]
     of_marks = iter(
-        target.marks.replace(BreakpointKind.LINE, [breakpoint for breakpoint, answer in zip(wishes, answers) if answer is None])
+        target.marks.replace(
+            BreakpointKind.LINE, [breakpoint for breakpoint, answer in zip(wishes, answers) if answer is None]
+        )
     )
     return [answer or next(of_marks) for answer in answers]
 

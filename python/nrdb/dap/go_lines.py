@@ -3,19 +3,19 @@ goroutine reaches a line or a function. Like the filters, these breakpoints belo
 netrev."""
 
 from bisect import bisect_left, bisect_right
+from collections.abc import Sequence
 from functools import cached_property
 from pathlib import Path
-from typing import Optional, Sequence
 
 from netrev.session.line_index import near_lines, no_step_from, places_of
 from netrev.session.session import Session
 from netrev.text.plain import plain
 
+from .breakpoint_requests import BreakpointError, BreakpointRequest, is_in, refused
 from .logpoints import LogPoints
 from .view.debuggee import Debuggee
 from .view.messages import Body, UnanswerableError
 from .view.roots import Roots
-from .breakpoint_requests import BreakpointError, BreakpointRequest, is_in, refused
 
 FIRST = 1_000_000  # the number of the first of these breakpoints; marks have smaller numbers
 FUNCTIONS = "functions"  # used in place of a file name for breakpoints on functions
@@ -72,7 +72,7 @@ class GoLines:
         except UnanswerableError as why:
             return refused(str(why))
 
-    def set_function(self, name: str, breakpoint: "BreakpointRequest | BreakpointError") -> Optional[Body]:
+    def set_function(self, name: str, breakpoint: "BreakpointRequest | BreakpointError") -> Body | None:
         """Sets a breakpoint at a function; returns None if no step comes from a function of that name."""
         place = places_of(self._debuggee.recording).place(name)
         return self._set(FUNCTIONS, place.positions, breakpoint) if place else None
@@ -86,7 +86,7 @@ class GoLines:
         self._of.setdefault(path, []).append(Hits(self._given, self._debuggee.session, positions, breakpoint))
         return {"id": self._given, "verified": True}
 
-    def nearest(self, position: int, forwards: bool) -> Optional[int]:
+    def nearest(self, position: int, forwards: bool) -> int | None:
         """The nearest later (or, backwards, earlier) position at which a breakpoint stops."""
         found = [near(hits.positions, position, forwards) for many in self._of.values() for hits in many]
         return (min if forwards else max)((stop for stop in found if stop is not None), default=None)
@@ -97,7 +97,7 @@ class GoLines:
         return [hits.number for hits in every if is_in(hits.positions, position)]
 
 
-def near(rising: Sequence[int], position: int, forwards: bool) -> Optional[int]:
+def near(rising: Sequence[int], position: int, forwards: bool) -> int | None:
     """The nearest later (or, backwards, earlier) one of these positions, which are in ascending order."""
     at = bisect_right(rising, position) if forwards else bisect_left(rising, position) - 1
     return rising[at] if 0 <= at < len(rising) else None

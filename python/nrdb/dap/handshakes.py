@@ -5,7 +5,6 @@ import socket
 from contextlib import ExitStack, suppress
 from queue import SimpleQueue
 from threading import Lock, Thread, Timer
-from typing import Optional
 
 from .admission import StrangerError, is_let_in
 from .view.capabilities import CAPABILITIES
@@ -27,8 +26,8 @@ class Connection:
         writer = self._opened.enter_context(connected.makefile("wb"))
         self._opened.callback(self.hang_up)  # so that no thread still reads when the streams are closed
         self.wire = EditorStreams(reader, writer, MOST_BYTES)
-        self.initialize: Optional[Request] = None
-        self.launch: Optional[Request] = None
+        self.initialize: Request | None = None
+        self.launch: Request | None = None
 
     def admitted(self) -> bool:
         """Answers the requests that need no token, until a launch with the token arrives. Returns False if the

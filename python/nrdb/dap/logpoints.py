@@ -2,12 +2,13 @@
 nrdb and use no marks of netrev. A cell's name in braces is replaced by the cell's value at the position, from `netrev
 changes`."""
 
-from typing import Iterator, NamedTuple, Sequence
+from collections.abc import Iterator, Sequence
+from typing import NamedTuple
 
 from netrev.session.session import Session
 
-from .view.messages import Body
 from .breakpoint_requests import HERE, IN_BRACES, BreakpointRequest
+from .view.messages import Body
 
 FIRST = 2_000_000  # the first number of these breakpoints, above all other breakpoints
 MOST = 1_000  # the maximum number of messages that a move prints

@@ -1,14 +1,14 @@
 """An editor's breakpoints as marks of netrev, with conditions that nrdb checks."""
 
+from collections.abc import Sequence
 from enum import Enum
-from typing import Sequence
 
 from netrev.connection.shapes import MARK
 from netrev.session.line_hints import hint
 from netrev.session.session import Session
 
-from .view.messages import Body
 from .breakpoint_requests import BreakpointError, BreakpointRequest, is_in, positions_of, refused
+from .view.messages import Body
 
 
 class BreakpointKind(Enum):

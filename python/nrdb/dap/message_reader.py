@@ -3,10 +3,11 @@
 
 import signal
 import threading
+from collections.abc import Iterator
 from contextlib import contextmanager
 from queue import SimpleQueue
 from threading import Condition
-from typing import Iterator, Optional, Protocol
+from typing import Protocol
 
 from netrev.system.interrupts import Interrupts
 
@@ -24,7 +25,7 @@ MOST_HELD = 2**22  # the maximum number of bytes in waiting requests; above that
 class Source(Protocol):
     """The source of an editor's requests."""
 
-    def request(self) -> Optional[Request]:
+    def request(self) -> Request | None:
         """The next request; None if the editor has gone."""
 
     @contextmanager
@@ -64,13 +65,13 @@ class Hearing:
         self._messages: "SimpleQueue[tuple[Request | Exception | None, int]]" = SimpleQueue()
         self._room, self._held, self._is_over = Condition(), 0, False
         self._urgent: list[Request] = []  # requests that have arrived and wait for their turn
-        self._at_work: Optional[Request] = None
+        self._at_work: Request | None = None
         self._interrupts = Interrupts()
         self._is_interrupted = False
         signal.signal(SIGNAL, lambda *_: self._look())
         threading.Thread(target=self._read, daemon=True).start()
 
-    def request(self) -> Optional[Request]:
+    def request(self) -> Request | None:
         message, size = self._messages.get()
         with self._room:
             self._held -= size

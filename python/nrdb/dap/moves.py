@@ -1,7 +1,8 @@
 """The editor's moves, their destinations, and the reasons for their stops. Each move sends one or more lines to
 netrev."""
 
-from typing import Callable, NamedTuple, Optional, Sequence
+from collections.abc import Callable, Sequence
+from typing import NamedTuple
 
 from netrev.connection.netrev import Reply
 from netrev.connection.shapes import MARK, ListedMark, Move, move_of
@@ -96,7 +97,7 @@ class Moves:
             return self._paused([])
         return self.run(True, goal.position)
 
-    def run(self, forwards: bool, target: Optional[int] = None) -> Stop:
+    def run(self, forwards: bool, target: int | None = None) -> Stop:
         """Goes to the nearest later (or, backwards, earlier) position at which a mark is hit or a filter
         stops. The move goes no further than the target, if given, or the end."""
         begun = self._debuggee.position
@@ -109,7 +110,7 @@ class Moves:
             self._session.printer.note(message)
         return stop
 
-    def _run(self, forwards: bool, target: Optional[int], marks_before: Sequence[ListedMark]) -> Stop:
+    def _run(self, forwards: bool, target: int | None, marks_before: Sequence[ListedMark]) -> Stop:
         with self._interrupts.at_once():
             bound = self._bound(forwards, target)
         line = "continue" if forwards else "reverse-continue"
@@ -123,7 +124,7 @@ class Moves:
                 why = self._why(hit, move, target)
                 return self._arrived(line, reply, move._replace(marks=tuple(hit)), marks_before, why)
 
-    def _searched(self, line: str, forwards: bool, bound: Optional[int]) -> tuple[str, Move]:
+    def _searched(self, line: str, forwards: bool, bound: int | None) -> tuple[str, Move]:
         """netrev's reply to a search, and the move. The search is made in pieces, each up to a temporary mark that
         isn't reported. Raises SearchInterruptedError if a pause comes between two pieces."""
         here = self._session.current_position().position
@@ -166,7 +167,7 @@ class Moves:
         self._session.arrive(position, (), marks_before)
         return Stop("pause", f"at {position}")
 
-    def _bound(self, forwards: bool, target: Optional[int]) -> Optional[int]:
+    def _bound(self, forwards: bool, target: int | None) -> int | None:
         """The position at which a move stops if no mark stops it earlier; None if only a mark or the end stops it."""
         position = self._debuggee.position
         filtered = self._filters.nearest(position, forwards)
@@ -174,13 +175,13 @@ class Moves:
         bounds = [bound for bound in (filtered, *places, target) if bound is not None]
         return (min if forwards else max)(bounds, default=None)
 
-    def _stop_at(self, bound: int, target: Optional[int]) -> Stop:
+    def _stop_at(self, bound: int, target: int | None) -> Stop:
         """Goes back to the bound that a move has passed."""
         reply = self._session.go(bound)
         move = move_of("goto", reply)
         return self._arrived(f"goto {bound}", reply, move, [], self._why([], move, target))
 
-    def _why(self, hit: Sequence[str], move: Move, target: Optional[int]) -> Stop:
+    def _why(self, hit: Sequence[str], move: Move, target: int | None) -> Stop:
         """The reason for a move's stop."""
         if hit:
             return Stop(self._marks.reason(hit[0]), f"mark {', '.join(hit)}", tuple(map(int, hit)))

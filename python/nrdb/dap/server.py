@@ -4,9 +4,9 @@ send a launch with the token."""
 import os
 import socket
 import sys
+from collections.abc import Sequence
 from contextlib import closing, suppress
 from threading import current_thread, main_thread
-from typing import Sequence
 
 from netrev.text.plain import plain
 

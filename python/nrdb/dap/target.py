@@ -2,7 +2,7 @@
 
 from dataclasses import dataclass
 from pathlib import Path
-from typing import Any, Optional
+from typing import Any
 
 from netrev.connection.beginnings import begins_at
 from netrev.messages import editors as texts
@@ -15,8 +15,8 @@ from .marks import Marks
 from .moves import Moves, Stop
 from .view.debuggee import Debuggee
 from .view.filters import Filters
-from .view.presentation import Looks
 from .view.messages import Request, UnanswerableError
+from .view.presentation import Looks
 from .view.roots import Roots
 
 SOURCES = ("recording", "go")
@@ -32,11 +32,11 @@ class Launch:
     `address` is the address of a shared session, and `stop_at` is None."""
 
     recording: str
-    stop_at: Optional[int | str]
+    stop_at: int | str | None
     goes_first: bool
-    root: Optional[str]
-    go_root: Optional[str]
-    address: Optional[tuple[str, int]] = None
+    root: str | None
+    go_root: str | None
+    address: tuple[str, int] | None = None
 
     @classmethod
     def of(cls, request: Request) -> "Launch":
@@ -57,7 +57,7 @@ class Launch:
         return cls(request.text("program"), None, *cls._shown(request.arguments), address)
 
     @staticmethod
-    def _shown(given: dict[str, Any]) -> tuple[bool, Optional[str], Optional[str]]:
+    def _shown(given: dict[str, Any]) -> tuple[bool, str | None, str | None]:
         """The arguments that a launch and an attach share: whether the program's lines come first, and the two
         folders."""
         source = given.get("source", SOURCES[0])
@@ -76,7 +76,7 @@ class Launch:
         return debuggee.length if self.stop_at == AT_END else begins_at(debuggee.recording)
 
 
-def _text(given: dict[str, Any], name: str) -> Optional[str]:
+def _text(given: dict[str, Any], name: str) -> str | None:
     value = given.get(name)
     if value is not None and not isinstance(value, str):
         raise UnanswerableError(texts.OPTION_STRING.format(name=name))

@@ -3,8 +3,8 @@ UsageError if the words are wrong. Modules that few sessions need are imported o
 sooner."""
 
 import re
+from collections.abc import Iterator
 from fnmatch import fnmatchcase
-from typing import Iterator
 
 from netrev.connection.output import Row, Table
 from netrev.messages import session as messages

@@ -1,6 +1,5 @@
 """Answers about calls and about what happened at the position, one function for each command, as in `answers.py`."""
 
-from typing import Optional
 
 from netrev.connection.netrev import Reply
 from netrev.connection.output import Table
@@ -27,7 +26,7 @@ def usage(name: str) -> str:
     return f"{COMMANDS[name].usage}: {COMMANDS[name].says}"
 
 
-def taken_most(name: str, words: list[str]) -> Optional[int]:
+def taken_most(name: str, words: list[str]) -> int | None:
     """The most rows to show: the default, a number from 1, or None for all."""
     most = None if words == ["all"] else number_of(words[0]) if len(words) == 1 else MOST
     if len(words) > 1 or most == 0 or (most is None and words != ["all"]):

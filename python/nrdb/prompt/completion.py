@@ -1,6 +1,6 @@
 """The completions of a word at the prompt: commands, topics, kinds, cells, and numbers in use."""
 
-from typing import Callable, Optional
+from collections.abc import Callable
 
 from netrev.connection.world import count_at
 from netrev.recording.recording import Recording
@@ -37,7 +37,7 @@ def numbers_in(session: Session, of: Of) -> list[str]:
     return [str(number) for number in range(count_at(session.netrev, of, MOST_NUMBERS))]
 
 
-def places_in(recording: Optional[Recording]) -> list[str]:
+def places_in(recording: Recording | None) -> list[str]:
     """The functions of the program, and the lines of its files from which steps come."""
     lines = recording.lines if recording else None
     calls = [call for number in set(lines.steps) for call in lines.stacks[number].calls] if lines else []

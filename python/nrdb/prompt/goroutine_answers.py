@@ -1,7 +1,6 @@
 """Commands about one goroutine at the session's position: `goroutine N` shows the goroutine's stack and its source, and
 `where`, `frame`, `up` and `down` then use that stack."""
 
-from typing import Optional
 
 from netrev.messages import session as messages
 from netrev.recording.waits import Name
@@ -46,14 +45,14 @@ def show(session: Session, found: GoroutineStack) -> None:
     session.printer.note("\n".join([found.words(), *stack_lines(found.stack)]))
 
 
-def named(words: list[str]) -> Optional[Name]:
+def named(words: list[str]) -> Name | None:
     """The goroutine that these words name: `12`, or `goid 34` for a goroutine without a step."""
     number = number_of(words[-1])
     is_goid = len(words) == 2 and words[0] == "goid"
     return None if number is None or len(words) > 1 + is_goid else Name(number, is_goid)
 
 
-def of_step(session: Session, position: int) -> Optional[Name]:
+def of_step(session: Session, position: int) -> Name | None:
     """The goroutine that made the last step up to a position; None at the start, or if no goroutine made that step."""
     if not position:
         return None

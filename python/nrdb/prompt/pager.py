@@ -3,7 +3,8 @@
 import io
 import os
 import signal
-from typing import Callable, TextIO
+from collections.abc import Callable
+from typing import TextIO
 
 MORE = "--return for more, q to leave out the rest, c to go on without stopping--"
 LEAST = 4  # on a screen with fewer lines, the pager doesn't stop

@@ -1,6 +1,5 @@
 """Commands that take a line or a function of the program, and commands about frames."""
 
-from typing import Optional
 
 from netrev.connection.output import Row, Table
 from netrev.messages import session as messages
@@ -30,7 +29,7 @@ def place_of(session: Session, spelled: str) -> ProgramPlace:
 def of_place(name: str, otherwise: Answering) -> Answering:
     """The answer to a command that may have a place as its argument."""
 
-    def answer(session: Session, words: list[str]) -> Optional[bool]:
+    def answer(session: Session, words: list[str]) -> bool | None:
         return (OF_PLACES[name] if is_place(session.recording, words) else otherwise)(session, words)
 
     return answer
@@ -136,7 +135,7 @@ def frame_by(move: int) -> Answering:
         stack = stack_at(session)
         if not stack.calls:
             raise UsageError(messages.NO_STACK)
-        wanted: Optional[int] = own_frame(stack) if session.frame is None else session.frame
+        wanted: int | None = own_frame(stack) if session.frame is None else session.frame
         if not move and words:
             wanted = int(words[0]) if words[0].isdecimal() and len(words[0]) < 6 else None
         elif wanted is not None:
@@ -153,7 +152,7 @@ def own_frame(stack: Stack) -> int:
     return next((at for at, call in enumerate(stack.calls) if call.of == OF_THE_PROGRAM), 0)
 
 
-def show_frame(session: Session, stack: Stack, wanted: Optional[int]) -> None:
+def show_frame(session: Session, stack: Stack, wanted: int | None) -> None:
     """Chooses a frame, by default the program's own, and shows the frame with the source around it."""
     session.frame = own_frame(stack) if wanted is None else wanted
     call = stack.calls[session.frame]

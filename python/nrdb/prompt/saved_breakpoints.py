@@ -1,6 +1,6 @@
 """`save breakpoints FILE`: writes lines that set the current marks again when `source FILE` runs them."""
 
-from typing import Iterator
+from collections.abc import Iterator
 
 from netrev.session.attached_commands import END
 from netrev.session.files import writing

@@ -3,7 +3,7 @@
 import os
 import sys
 from pathlib import Path
-from typing import Optional, TextIO, cast
+from typing import TextIO, cast
 
 from netrev.connection.errors import MismatchedRecordingError
 from netrev.connection.netrev import NetrevEndedError
@@ -40,7 +40,7 @@ class Terminal:
 
     def __init__(self, session: Session):
         self.session = session
-        self._pager: Optional[Paged] = None
+        self._pager: Paged | None = None
         self._last = ""
         self._found: list[str] = []
 
@@ -123,7 +123,7 @@ class Terminal:
         except OSError:
             pass
 
-    def _complete(self, text: str, at: int) -> Optional[str]:
+    def _complete(self, text: str, at: int) -> str | None:
         """The candidate with this number; None after the last one, as readline expects."""
         if at == 0:
             before = readline.get_line_buffer()[: readline.get_begidx()].split()

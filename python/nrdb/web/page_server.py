@@ -13,6 +13,7 @@ from netrev.errors import NetrevError
 from netrev.messages import browsers as texts
 
 from .document import Document
+from .http_connection import EVENT_STREAM, JSON, LONGEST_HEAD, BrowserConnection
 from .requests import (
     BROWSER,
     COMPLETE,
@@ -27,7 +28,6 @@ from .requests import (
     positions_of,
 )
 from .streams import BrowserStream, Streams
-from .http_connection import EVENT_STREAM, JSON, LONGEST_HEAD, BrowserConnection
 
 LOOPBACK = "127.0.0.1"
 MOST_CONNECTIONS = 64

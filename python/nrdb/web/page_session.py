@@ -5,9 +5,9 @@ import json
 import queue
 import secrets
 import time
+from collections.abc import Callable
 from concurrent.futures import Future
 from pathlib import Path
-from typing import Callable, Optional
 
 from netrev.connection.errors import MismatchedRecordingError, unexpected
 from netrev.connection.netrev import Netrev, NetrevEndedError
@@ -22,9 +22,9 @@ from netrev.timeline.page_contents import MOST
 from nrdb.prompt.completion import completions
 
 from .document import document
+from .page_server import LOOPBACK, Server, UnavailableError, listening
 from .painter import Painter, Wanted
 from .requests import Gate
-from .page_server import LOOPBACK, Server, UnavailableError, listening
 from .shared_session import Shared
 from .streams import Streams
 
@@ -71,7 +71,7 @@ def serve_page(session: Session, port: int, opened: Opening) -> int:
 class Running:
     """The queued lines, and the session that answers them."""
 
-    def __init__(self, session: Shared, opened: Opening, streams: Streams, painter: Optional[Painter]):
+    def __init__(self, session: Shared, opened: Opening, streams: Streams, painter: Painter | None):
         self.session, self._painter = session, painter
         self._opened, self._streams = opened, streams
         self._work: queue.Queue[Callable[[], None]] = queue.Queue(MOST_WAITING)

@@ -5,11 +5,11 @@ import json
 import subprocess
 import sys
 from collections import OrderedDict
+from collections.abc import Callable
 from concurrent.futures import Future
 from contextlib import suppress
 from queue import Full, Queue
 from threading import Thread
-from typing import Callable, Optional
 
 from netrev.connection.arriving_changes import ArrivingChanges
 from netrev.connection.netrev import Own
@@ -31,7 +31,7 @@ MOST_WAITING = 16
 MOST_KEPT = 6  # the maximum number of stored parts
 TELLS, FAILS = b"T", b"F"  # the kinds of lines of the process that aren't pictures: progress, or an error
 
-Wanted = Optional[Window]  # None: the whole run, with the part that the page shows first
+Wanted = Window | None  # None: the whole run, with the part that the page shows first
 
 
 class Painter:
@@ -42,8 +42,8 @@ class Painter:
         self._tell = tell
         self._wanted: "Queue[tuple[Wanted, Future[bytes]]]" = Queue(MOST_WAITING)
         self._pictures: "OrderedDict[Wanted, bytes]" = OrderedDict()
-        self._process: Optional["subprocess.Popen[bytes]"] = None
-        self._thread: Optional[Thread] = None
+        self._process: "subprocess.Popen[bytes] | None" = None
+        self._thread: Thread | None = None
 
     def ask(self, window: Wanted) -> "Future[bytes]":
         """The picture as JSON. The Future raises UnavailableError if the picture can't be made."""

@@ -3,9 +3,9 @@ other requests are rejected."""
 
 import hmac
 import re
+from collections.abc import Mapping
 from dataclasses import dataclass
 from http import HTTPStatus
-from typing import Mapping
 
 from netrev.errors import NetrevError
 from netrev.messages import browsers as texts

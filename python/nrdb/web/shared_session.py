@@ -1,8 +1,9 @@
 """The session that the page's browsers share. This is nrdb's session, which also reports which browser moved it to
 which position. netrev reports only a session's position, so moves by other clients are noticed at the next check."""
 
+from collections.abc import Sequence
 from dataclasses import dataclass, field, fields
-from typing import Any, Optional, Protocol, Sequence
+from typing import Any, Protocol
 
 from netrev.connection.collected_output import Collecting
 from netrev.connection.netrev import Netrev, Reply
@@ -81,8 +82,8 @@ class Shared(Session):
     streams: EventListener = field(kw_only=True)
     user: str = ""
     part: str = ""  # the command of the line that is being answered
-    last_position: Optional[Position] = None
-    last_marks: Optional[list[ListedMark]] = None
+    last_position: Position | None = None
+    last_marks: list[ListedMark] | None = None
 
     @classmethod
     def over(cls, session: Session, streams: EventListener) -> "Shared":
@@ -140,7 +141,7 @@ class Shared(Session):
         self.begin(self.ask("info position"))
         self.refresh()
 
-    def _report_move(self, user: str, line: Optional[str], position: int) -> None:
+    def _report_move(self, user: str, line: str | None, position: int) -> None:
         """Reports a move if the position has changed."""
         if position == self.known_position:
             return

@@ -3,10 +3,11 @@ functions except `tell` are called in the server's own thread."""
 
 import asyncio
 from collections import deque
+from collections.abc import Callable, Iterator
 from contextlib import contextmanager
 from http import HTTPStatus
 from itertools import count
-from typing import Any, Callable, Iterator
+from typing import Any
 
 from netrev.messages import browsers as texts
 from netrev.timeline.page import plain_json

@@ -2,7 +2,7 @@
 
 import base64
 from types import SimpleNamespace as Made
-from typing import Any, Optional, cast
+from typing import Any, cast
 
 import pytest
 
@@ -12,13 +12,13 @@ from netrev.run.index import RunIndex
 from nrdb.dap import breakpoints, inspection
 from nrdb.dap import marks as dap_marks
 from nrdb.dap import moves
+from nrdb.dap.breakpoint_requests import wish_of
 from nrdb.dap.marks import BreakpointKind, Marks
 from nrdb.dap.moves import AT_THE_END, Moves, Stop, text_of
 from nrdb.dap.view import filters, memory
 from nrdb.dap.view.filters import Failure, Filter, Filters
 from nrdb.dap.view.messages import Request, UnanswerableError
 from nrdb.dap.view.numbering import Numbering
-from nrdb.dap.breakpoint_requests import wish_of
 
 
 class Asked:
@@ -34,7 +34,7 @@ def request(**arguments: Any) -> Request:
     ))  # fmt: skip
 
 
-def read(named: str, count: int, offset: Optional[int] = None) -> dict[str, Any]:
+def read(named: str, count: int, offset: int | None = None) -> dict[str, Any]:
     asked = request(memoryReference=named, count=count, **({} if offset is None else {"offset": offset}))
     return memory.read(cast(Any, Asked()), asked)
 
@@ -48,9 +48,7 @@ def read(named: str, count: int, offset: Optional[int] = None) -> dict[str, Any]
         ("out 2", 0, 0, "", "0x0", 0),
     ],
 )  # fmt: skip
-def test_bytes_of_a_buffer(
-    named: str, count: int, offset: Optional[int], data: str, address: str, missing: int
-) -> None:
+def test_bytes_of_a_buffer(named: str, count: int, offset: int | None, data: str, address: str, missing: int) -> None:
     found = read(named, count, offset)
     assert base64.b64decode(found.pop("data", "")).hex() == data
     assert found == {"address": address} | ({"unreadableBytes": missing} if missing else {})
@@ -68,7 +66,7 @@ def test_memory_that_has_no_bytes(named: str, count: int) -> None:
 @pytest.mark.parametrize(
     "cell, buffer", [("in 2", "in 2"), ("out 0", "out 0"), ("in", None), ("lock 2", None), ("clock", None)]
 )
-def test_the_buffer_whose_bytes_a_cell_counts(cell: str, buffer: Optional[str]) -> None:
+def test_the_buffer_whose_bytes_a_cell_counts(cell: str, buffer: str | None) -> None:
     assert memory.reference_of(cell) == buffer
 
 
@@ -202,7 +200,8 @@ def test_breakpoints_of_a_kind_are_replaced() -> None:
     ]
     lines.clear()
     assert [
-        answer["id"] for answer in marks.replace(BreakpointKind.FUNCTION, [wish_of("acquire", {}), wish_of("spawn", {})])
+        answer["id"]
+        for answer in marks.replace(BreakpointKind.FUNCTION, [wish_of("acquire", {}), wish_of("spawn", {})])
     ] == [2, 5]
     assert lines == ["delete 1", "break spawn"]  # (3 had been deleted)
     lines.clear()
@@ -219,7 +218,7 @@ def test_breakpoints_of_a_kind_are_replaced() -> None:
 )  # fmt: skip
 @pytest.mark.parametrize("first", [0, 1])
 def test_the_lines_that_have_a_step(
-    line: int, end: Optional[int], is_recording: bool, wanted: list[int], first: int
+    line: int, end: int | None, is_recording: bool, wanted: list[int], first: int
 ) -> None:
     """Steps are at lines 3, 5 and 9 of the program, and at lines 2 to 5 of the recording. The editor counts lines from `first`."""
     steps = {number: Made(number=number, line=number + 1) for number in (1, 2, 3, 4)}

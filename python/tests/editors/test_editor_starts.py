@@ -8,7 +8,7 @@ import sys
 from collections.abc import Iterator
 from contextlib import ExitStack, contextmanager
 from pathlib import Path
-from typing import Any, Optional
+from typing import Any
 
 import pytest
 
@@ -17,13 +17,13 @@ from nrdb.dap import adapter, handshakes, server
 from nrdb.dap.adapter import Adapter
 from nrdb.dap.admission import NAMED_BY
 from nrdb.dap.handshakes import Connection
-from nrdb.dap.message_reader import Reading
 from nrdb.dap.inspection import page
+from nrdb.dap.message_reader import Reading
 from nrdb.dap.target import AT_END, AT_START, Launch
 from nrdb.dap.view import debuggee
 from nrdb.dap.view.debuggee import Debuggee
-from nrdb.dap.view.presentation import GOIDS, NETWORK, maker_of, thread_of
 from nrdb.dap.view.messages import EditorStreams, Request, UnanswerableError
+from nrdb.dap.view.presentation import GOIDS, NETWORK, maker_of, thread_of
 from tests.support.stubs import raising, stub
 from tests.suspects.test_suspects import COMES, OPEN, READ, recording_of
 
@@ -90,7 +90,7 @@ class _Unoptioned(socket.socket):
         ("h:-1", None), ("h:8o", None), ("h:\u0662", None),
     ],
 )  # fmt: skip
-def test_the_address_of_an_attach(address: str, wanted: Optional[tuple[str, int]]) -> None:
+def test_the_address_of_an_attach(address: str, wanted: tuple[str, int] | None) -> None:
     request = Request(1, "attach", {"program": "x.jsonl", "address": address})
     if wanted is None:
         with pytest.raises(UnanswerableError):
@@ -273,7 +273,7 @@ def test_the_path_of_the_recording(path: str, is_it: bool) -> None:
 
 
 @pytest.mark.parametrize(("thread", "maker"), [(1, 0), (8, 7), (NETWORK - 1, NETWORK - 2), (NETWORK, None)])
-def test_threads_are_numbered_from_1(thread: int, maker: Optional[int]) -> None:
+def test_threads_are_numbered_from_1(thread: int, maker: int | None) -> None:
     assert (maker_of(thread), thread_of(maker)) == (maker, thread)
 
 

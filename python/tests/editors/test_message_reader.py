@@ -4,10 +4,11 @@ import io
 import json
 import os
 import time
+from collections.abc import Callable
 from contextlib import ExitStack
 from pathlib import Path
 from threading import Thread, Timer
-from typing import Any, Callable
+from typing import Any
 
 import pytest
 
@@ -15,17 +16,17 @@ from netrev.connection.collected_output import Collecting
 from netrev.session.session import Session
 from netrev.system.interrupts import Interrupts, SearchInterruptedError, SessionAbandonedError
 from nrdb.dap import message_reader, moves, progress
+from nrdb.dap.breakpoint_requests import BreakpointError, BreakpointRequest, HitCount, wish_of
 from nrdb.dap.go_lines import GoLines
-from nrdb.dap.message_reader import Hearing
 from nrdb.dap.logpoints import LogPoints
 from nrdb.dap.marks import BreakpointKind, Marks
+from nrdb.dap.message_reader import Hearing
 from nrdb.dap.moves import Moves, Stop
+from nrdb.dap.progress import Work
 from nrdb.dap.view.debuggee import Debuggee
 from nrdb.dap.view.filters import Filters
 from nrdb.dap.view.messages import EditorStreams, MalformedMessageError, Request
 from nrdb.dap.view.roots import Roots
-from nrdb.dap.breakpoint_requests import BreakpointError, BreakpointRequest, HitCount, wish_of
-from nrdb.dap.progress import Work
 from tests.prompt.test_program_places import FILE, session_of
 
 SOON, PATIENCE = 0.5, 60  # seconds
@@ -89,7 +90,9 @@ class Client:
         assert request is not None
         return request
 
-    def stopped(self, request: Request, work: Callable[[Interrupts], None], messages: bytes, by: type[Exception]) -> None:
+    def stopped(
+        self, request: Request, work: Callable[[Interrupts], None], messages: bytes, by: type[Exception]
+    ) -> None:
         """Checks that a message soon stops the work on a request: within this much processor time, whatever else the machine does."""
         text: list[float] = []
 

@@ -2,7 +2,6 @@
 deadline was set. In a schedule, a deadline may pass even if no goroutine sees it pass in the recording."""
 
 from itertools import islice
-from typing import Optional
 
 from netrev.explore.hangs import ended_by, moved_by
 from netrev.explore.scheduler import Scheduler
@@ -40,7 +39,7 @@ LATE += [["incref", 0, 0], ["setdeadline", 0, 0, "r", 900], ["decref", 0, 0]]
 LATE += [["rwlock", 1, 0, "w"], ["pollreset", 1, 0, "w"], ["syswrite", 1, 0, "00"], ["rwunlock", 1, 0, "w"]]
 
 
-def script_with(orders: Optional[Pairs]) -> Script:
+def script_with(orders: Pairs | None) -> Script:
     """The script of a program that enforces these orders and in which a deadline ends a read."""
     recording = recording_of(GOOD)
     recording.lines.orders = orders
@@ -89,7 +88,7 @@ def test_each_race_is_found_in_a_good_recording() -> None:
 
 def test_who_is_made_waits_for_its_maker_alone() -> None:
     steps = [*OPEN[1:], ["incref", 0, 0], ["decref", 0, 0], OPEN[0], ["rwlock", 1, 0, "r"], ["rwunlock", 1, 0, "r"]]
-    known: tuple[tuple[Optional[Pairs], bool], ...] = ((None, True), ([], False), ([(4, 6)], False))
+    known: tuple[tuple[Pairs | None, bool], ...] = ((None, True), ([], False), ([(4, 6)], False))
     for orders, is_held in known:
         recording = recording_of(steps)
         recording.lines.orders = orders

@@ -1,7 +1,7 @@
 """Copies of the recorded run change nothing: the findings are the same as when each schedule runs from its first step to its last."""
 
 from pathlib import Path
-from typing import Any, Optional
+from typing import Any
 
 import pytest
 
@@ -25,7 +25,7 @@ TRAFFIC, LENGTH = (720, 726), 400  # seeds, and the length of their recordings
 class PlainSearch(Search):
     """A search that runs each schedule from its beginning to its end."""
 
-    def run_schedule(self, delays: tuple[Delay, ...]) -> Optional[Run]:
+    def run_schedule(self, delays: tuple[Delay, ...]) -> Run | None:
         scheduler = Scheduler(self.script, delays)
         scheduler.finish(self._most)
         state = scheduler.state

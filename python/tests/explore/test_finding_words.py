@@ -1,7 +1,8 @@
 """The text about findings in terms of calls, and the target of a finding's reduced recording and of a report."""
 
 from collections import Counter
-from typing import Any, Callable, Optional
+from collections.abc import Callable
+from typing import Any
 
 import pytest
 
@@ -38,7 +39,7 @@ def telling_of(steps: Steps) -> FindingSentences:
         (1, 15, ("Read", 15)), (1, 17, ("Read", 15)), (2, 9, None),
     ],
 )  # fmt: skip
-def test_the_innermost_call_around_a_step(g: int, number: int, wanted: Optional[tuple[str, int]]) -> None:
+def test_the_innermost_call_around_a_step(g: int, number: int, wanted: tuple[str, int] | None) -> None:
     call = telling_of(INSIDE).call_of(g, number)
     assert (call and (call.name, call.first)) == wanted
 
@@ -77,7 +78,7 @@ def test_the_summary_of_all_schedules(
 # ---- the target of the reduced recording
 
 
-def suspect(rule: str, is_shown: bool = True, goroutine: Optional[int] = None, socket: Optional[int] = None) -> Suspect:
+def suspect(rule: str, is_shown: bool = True, goroutine: int | None = None, socket: int | None = None) -> Suspect:
     return Suspect(4, Weight.SHOWN if is_shown else Weight.DOUBTFUL, ["it says"], goroutine, None, socket, rule=rule)
 
 

@@ -3,13 +3,13 @@
 import io
 import pickle
 from collections import Counter
-from typing import Any, Optional
+from typing import Any
 
 import pytest
 
 from netrev.explore.control_flow import NEVER, MissingObjectError, Operation, ScriptPlace
 from netrev.explore.environment import CLOCK, MOST_TRIES, NETWORK, UNKNOWN, Environment, steps_past_deadline
-from netrev.explore.failures import Failed, Reason, Why, ends_of, failing_delays, reason_of, explaining_steps, watched
+from netrev.explore.failures import Failed, Reason, Why, ends_of, explaining_steps, failing_delays, reason_of, watched
 from netrev.explore.hangs import ended_by
 from netrev.explore.numbered_state import AnsweredStep, NumberedState
 from netrev.explore.orders import Order, OrderProgress, Trigger, orders_of, triggers_of
@@ -42,7 +42,7 @@ def test_operations_are_ordered_as_the_program_ordered_their_steps() -> None:
     ("operations", "waits_for"), [((0, 0), None), ((1, 0), 0), ((1, 2), 0), ((1, 3), None), ((2, 3), 0), ((2, 5), None)]
 )
 def test_a_goroutine_waits_for_the_operations_before_its_own(
-    operations: tuple[int, int], waits_for: Optional[int]
+    operations: tuple[int, int], waits_for: int | None
 ) -> None:
     """Goroutine 1 begins operation 1 after operation 2 of goroutine 0, and operation 2 after operation 4."""
     places = [ScriptPlace(operations[1]), ScriptPlace(operations[0])]
@@ -67,7 +67,7 @@ def test_a_goroutine_waits_for_the_operations_before_its_own(
     ],
 )
 def test_the_network_waits_for_the_steps_to_which_it_may_react(
-    places: list[ScriptPlace], number: int, waits_for: Optional[int]
+    places: list[ScriptPlace], number: int, waits_for: int | None
 ) -> None:
     """Step 4 is the second of operation 2 of goroutine 0; step 6 is the first of operation 0 of goroutine 1."""
     orders = OrderProgress(None, [Trigger(4, 0, 2, 1), Trigger(6, 1, 0, 0)], places)
@@ -135,7 +135,7 @@ def begun(steps: list[Step], ordinals: list[int]) -> tuple[Environment, Numbered
     ],
 )  # fmt: skip
 def test_an_action_has_the_numbers_of_the_schedule(
-    action: Action, steps: list[Step], wanted: Optional[list[Step]]
+    action: Action, steps: list[Step], wanted: list[Step] | None
 ) -> None:
     environment, state = begun(steps, [0, 0])
     assert environment.steps_of(action, state) == wanted
@@ -317,7 +317,7 @@ def made_of(numbers: list[int], time: int) -> list[AnsweredStep]:
     ],
 )  # fmt: skip
 def test_why_a_call_fails(
-    why: Why, numbers: list[int], time: int, reason: Optional[Reason], stays: tuple[int, ...]
+    why: Why, numbers: list[int], time: int, reason: Reason | None, stays: tuple[int, ...]
 ) -> None:
     """The calls end at steps 11 and 16, and step 17 closes the socket. The step with number 0 fails."""
     script = script_of(recording_of(OPEN + sets(5) + READS + READS + CLOSES))
@@ -334,7 +334,7 @@ def test_why_a_call_fails(
     ("operation", "ended"),
     [(0, None), (1, 8), (2, 8), (3, None)],
 )
-def test_the_deadline_that_ended_a_call(operation: int, ended: Optional[int]) -> None:
+def test_the_deadline_that_ended_a_call(operation: int, ended: int | None) -> None:
     """Step 5 sets the deadline of the other side, and step 8 that of this one, which ends the wait; step 17 comes later."""
     other: Steps = [["incref", 0, 0], ["setdeadline", 0, 0, "w", -1], ["decref", 0, 0]]
     steps = (

@@ -119,9 +119,7 @@ def test_the_next_go_statement_of_the_function_that_added(statements: str, next_
     found = group_counts.next_after(cast(Any, recording), cast(Any, Made(added=[Made(stack=4)])), cast(Any, kinds))
     assert [kind.statement.line for kind in found] == ([next_one] if next_one else [])
     recording.lines.stacks[4] = Made(own=lambda: None)
-    assert (
-        group_counts.next_after(cast(Any, recording), cast(Any, Made(added=[Made(stack=4)])), cast(Any, kinds)) == []
-    )
+    assert group_counts.next_after(cast(Any, recording), cast(Any, Made(added=[Made(stack=4)])), cast(Any, kinds)) == []
 
 
 @pytest.mark.parametrize("until, moved", [(0, 0), (1, 7), (8, 7), (9, 9), (99, 9)])
@@ -362,7 +360,9 @@ def test_a_datagram_that_is_longer_than_the_buffer(
     monkeypatch.setattr(cut_datagrams, "is_datagram", lambda index, socket: socket == 3)
     monkeypatch.setattr(cut_datagrams, "sent_to", lambda index, socket: [wrote])
     index = cast(Any, Made(recording=None, by_socket={3: [wrote, read], 4: [read]}))
-    assert [(cut_datagram.write, cut_datagram.read) for cut_datagram in cut_datagrams.cut_at(index, 3)] == ([(wrote, read)] if cut else [])
+    assert [(cut_datagram.write, cut_datagram.read) for cut_datagram in cut_datagrams.cut_at(index, 3)] == (
+        [(wrote, read)] if cut else []
+    )
     assert not list(cut_datagrams.cut_at(index, 4))
 
 
@@ -383,7 +383,9 @@ def test_all_goroutines_that_a_waiter_started_have_ended(first: int, last: int, 
     starter, none = line_of(4, function), Made(made=None, first=1, last=2)
     known = {7: none, 8: Made(made=starter, first=first, last=last)}
     own = Made(
-        _recording=Made(lines=Made(goroutines=known)), _position=20, _ended_words=lambda starter, goids: [(starter, goids)]
+        _recording=Made(lines=Made(goroutines=known)),
+        _position=20,
+        _ended_words=lambda starter, goids: [(starter, goids)],
     )
     waiter = Made(stack=Made(calls=[line_of(9, "sync.Wait", of=OF_GO), line_of(9, "main.run")]), since=5)
     assert groups.Groups._of_ended(cast(Any, own), cast(Any, waiter)) == ([(starter, [8])] if says else [])

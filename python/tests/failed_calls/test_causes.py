@@ -6,8 +6,9 @@ import contextlib
 import json
 import os
 import re
+from collections.abc import Iterator
 from pathlib import Path
-from typing import Any, Iterator, NamedTuple
+from typing import Any, NamedTuple
 
 import pytest
 
@@ -18,8 +19,8 @@ from netrev.findings.causes.tables import hangs_table
 from netrev.findings.evidence.call_words import duration
 from netrev.findings.source.later_source import behind
 from netrev.findings.streams.unpassed_ends import SETTLED
-from netrev.findings.suspects.rule_loader import RULES_OF_CALLS
 from netrev.findings.suspects.ranking import all_suspects_of
+from netrev.findings.suspects.rule_loader import RULES_OF_CALLS
 from netrev.findings.suspects.rules_of_calls.left_open import SINCE
 from netrev.findings.suspects.rules_of_calls.timeout_again import MANY
 from netrev.recording.recording import Recording

@@ -2,7 +2,6 @@
 about `info hangs` when a session opens."""
 
 import pathlib
-from typing import Optional
 
 import pytest
 
@@ -40,7 +39,7 @@ class StandIn:
         recording.changes = self.changes_of_netrev()
         return first_words(recording, BAD)
 
-    def changes_of_netrev(self) -> Optional[RecordedChanges]:
+    def changes_of_netrev(self) -> RecordedChanges | None:
         with printed_changes.PrintedChanges(str(self.netrev), BAD) as printed:
             return printed.of(self.recording)
 

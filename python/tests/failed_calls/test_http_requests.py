@@ -3,7 +3,8 @@ were cancelled. The recording is of tools/go/samples/requests."""
 
 import pathlib
 import re
-from typing import Any, Callable
+from collections.abc import Callable
+from typing import Any
 
 from dev.recorder.suites import SAMPLES
 from netrev.findings.causes import errors_table, first_words, requests_table

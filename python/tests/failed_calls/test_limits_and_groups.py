@@ -87,7 +87,9 @@ def test_a_request_that_ended_names_no_rest_either() -> None:
             timer._replace(time=timer.time - 5 * MILLISECOND, due=timer.due + 90) for timer in lines.timers[0]
         ]
 
-    assert re.search(r"It counts from the call at main.go:\d+ .* \d+ ms earlier\.$", sentence_with(lambda lines: None)[0])
+    assert re.search(
+        r"It counts from the call at main.go:\d+ .* \d+ ms earlier\.$", sentence_with(lambda lines: None)[0]
+    )
     assert re.search(r"It counts from the call at main.go:\d+ in \w+\.$", sentence_with(redirected)[0])
 
 

@@ -41,7 +41,10 @@ def said_of(name: str) -> dict[str, list[str]]:
             "hangs in the middle": lines_of(hangs_table(recording, recording.length // 2)),
             "errors": lines_of(errors_table(recording, recording.length, None)),
             "requests": lines_of(requests_table(recording)),
-            "suspects": [f"{suspect.rule} {suspect.step} {suspect.weight} {suspect.steps}: {suspect.sentence()}" for suspect in suspects],
+            "suspects": [
+                f"{suspect.rule} {suspect.step} {suspect.weight} {suspect.steps}: {suspect.sentence()}"
+                for suspect in suspects
+            ],
         }
     return {part: lines for part, lines in sentences.items() if lines}
 

@@ -12,13 +12,13 @@ import pytest
 
 from dev.recorder.readiness import Readiness
 from netrev.messages import recorder as messages
-from netrev_go import cli, doctor, options, go_test_results, go_test
+from netrev_go import cli, doctor, go_test, go_test_results, options
 from netrev_go.go_command import outputs, status
 from netrev_go.go_command.toolchain import RecorderError
+from netrev_go.go_test_results import Recordings
 from netrev_go.log import lines
 from netrev_go.steps import goroutine_lines
 from netrev_go.steps.goroutine_lines import Everybody
-from netrev_go.go_test_results import Recordings
 
 from .test_go_line_reader import elf
 
@@ -247,7 +247,9 @@ def test_only_the_log_of_a_process_is_still_written(
 ) -> None:
     written: list[bool] = []
 
-    def convert(log: Path, base: Path, go: object, options: object, known: object, hear: object, is_written: bool) -> Made:
+    def convert(
+        log: Path, base: Path, go: object, options: object, known: object, hear: object, is_written: bool
+    ) -> Made:
         written.append(is_written)
         return Made(lines=[], taken=True)
 

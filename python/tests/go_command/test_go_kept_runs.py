@@ -10,10 +10,11 @@ import shutil
 import signal
 import subprocess
 import sys
+from collections.abc import Callable
 from contextlib import ExitStack, redirect_stderr, redirect_stdout
 from pathlib import Path
 from types import SimpleNamespace
-from typing import Any, Callable, Optional
+from typing import Any
 
 import pytest
 
@@ -68,7 +69,7 @@ class Run:
         return Go(str(program), self.folder, "go1", "linux/amd64", "")
 
     def called(
-        self, *words: str, does: str = "", status: int = 0, leaves: str = "", netrev: Optional[str] = None
+        self, *words: str, does: str = "", status: int = 0, leaves: str = "", netrev: str | None = None
     ) -> tuple[int, str]:
         """netrev-go's status, and all its output."""
         go = self.go(does, status, leaves or f'cp {self.log} "$NETREV_LOG.$$"')

@@ -8,7 +8,7 @@ from typing import NamedTuple
 
 import pytest
 
-from netrev_go.go_command.running import MOST_POINTS, relative_to_folder, logs_folder, logs_in, process_of
+from netrev_go.go_command.running import MOST_POINTS, logs_folder, logs_in, process_of, relative_to_folder
 from netrev_go.go_command.toolchain import RecorderError
 
 

@@ -21,8 +21,8 @@ from netrev_go.log.notes import ARMED, PARKED
 from netrev_go.log.points import Point, PointKind
 from netrev_go.log.times import seconds
 from netrev_go.options import check, of_a_process, parser
-from netrev_go.steps.conversion import program_of
 from netrev_go.snapshots import LOCKS, READS, WRITES, SocketWait, Watch, waiting_in
+from netrev_go.steps.conversion import program_of
 
 ROWS, QUEUE = 4, 2
 COPIED = 17  # the word of the header that marks a copy

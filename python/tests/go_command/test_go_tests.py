@@ -12,7 +12,7 @@ from contextlib import ExitStack
 from dataclasses import asdict
 from pathlib import Path
 from types import SimpleNamespace
-from typing import Any, Optional, cast
+from typing import Any, cast
 from xml.etree import ElementTree
 
 import pytest
@@ -26,16 +26,16 @@ from netrev_go import cli
 from netrev_go.cli import ExitStatus
 from netrev_go.go_command.running import FROM_THE_TERMINAL, GoRunner, RunLimits
 from netrev_go.go_command.toolchain import Go
+from netrev_go.go_test_results import Recordings, file_name, short_name
 from netrev_go.log.goroutines import goroutines_of as everybody
 from netrev_go.log.points import Log, PointKind
-from netrev_go.log.tests_in_log import Ran, Tests, Went, of_log
 from netrev_go.log.sockets import owned
+from netrev_go.log.tests_in_log import Ran, Tests, Went, of_log
 from netrev_go.steps import conversion, forms, report
 from netrev_go.steps.conversion import RecordingOptions
-from netrev_go.steps.scopes_of_tests import goroutines_of, sockets_of
 from netrev_go.steps.forms import Cause, TestResult
 from netrev_go.steps.report import Conversion, Shown
-from netrev_go.go_test_results import Recordings, file_name, short_name
+from netrev_go.steps.scopes_of_tests import goroutines_of, sockets_of
 from tests.logs.test_go_converting import Points
 
 from .test_go_kept_runs import PYTHON, Run, restore_signals
@@ -367,7 +367,9 @@ def test_what_a_page_or_a_terminal_would_obey_is_written_out() -> None:
 
 def test_whatever_is_said_is_read_again_as_it_was() -> None:
     strange = '100%, 50%25: a::b, c=d %0A %2C %3A </failure> & <!-- ]]> "x" ::error::'
-    test_result = TestResult("p", strange, "failed", 1, 1, file=strange, line=3, says=[strange, "b"], suspects=[strange])
+    test_result = TestResult(
+        "p", strange, "failed", 1, 1, file=strange, line=3, says=[strange, "b"], suspects=[strange]
+    )
     properties, message = as_github_reads(forms.annotation(test_result))
     assert properties == {"file": strange, "line": "3", "title": f"p {strange}"}
     assert message == f"failed\n{strange}\nb"
@@ -424,7 +426,7 @@ def signals(cleanups: ExitStack) -> None:
     restore_signals(cleanups)
 
 
-def ended(folder: Path, script: str, called: Optional[list[bool]] = None) -> tuple[int, bool]:
+def ended(folder: Path, script: str, called: list[bool] | None = None) -> tuple[int, bool]:
     """The status of a command, and whether it was cancelled before its end."""
     runner = GoRunner(["sh", "-c", script], folder, RunLimits())
     status = runner.wait(lambda: (called if called is not None else []).append(True))

@@ -2,13 +2,13 @@
 in the first cause, and says nothing if it doesn't apply."""
 
 import contextlib
+from collections.abc import Iterator
 from pathlib import Path
-from typing import Iterator, Optional
 
 import pytest
 
 from netrev.findings.causes import first_words
-from netrev.findings.causes.first_output import failures_of, concerns, in_order
+from netrev.findings.causes.first_output import concerns, failures_of, in_order
 from netrev.findings.datagrams.undelivered_datagrams import is_same, unheard
 from netrev.findings.evidence.ended_goroutines import leaves_of
 from netrev.findings.evidence.ledger import Ledger
@@ -28,8 +28,8 @@ from netrev.recording.recording import Recording
 from netrev.recording.waits import Name, ObjectWait, waits_of
 from netrev.recording.where import SourceCall, SourceLines, Stack
 from netrev.run.index import run_of
-from netrev_go.log.socket_facts import GOES_TO, OF_DATAGRAMS, Beside, address_words
 from netrev_go.log.points import Point, PointKind
+from netrev_go.log.socket_facts import GOES_TO, OF_DATAGRAMS, Beside, address_words
 from tests.failed_calls.test_causes import TWO_ENDS, in_the_folder_of_the_source, with_lines
 from tests.trials.go_caused import GONE, NAMES, bug_line
 
@@ -216,7 +216,7 @@ def test_a_group_without_a_missing_call(uses: list[ObjectUse]) -> None:
 STOPPED = -1
 MADE, GOES_OFF = Timer(1, 4, 1, 1, 10, 50), Timer(1, 4, 3, 1, 10, 50)
 STOPS = Timer(1, 4, 2, 2, 20, STOPPED)
-TIMERS: dict[str, tuple[list[Timer], list[ObjectUse], Optional[str]]] = {
+TIMERS: dict[str, tuple[list[Timer], list[ObjectUse], str | None]] = {
     "a ticker that was stopped": ([MADE, STOPS], [], "ticker"),
     "one that was set anew": ([MADE, STOPS, MADE], [], None),
     "a timer that was stopped": ([GOES_OFF, STOPS], [], "timer"),
@@ -390,7 +390,7 @@ def once(*numbers: int) -> Stack:
     [(once(9, 9), "It waits for itself"), (once(9, 30), "Perhaps it waits for itself"), (once(9), None)],
     ids=["itself", "perhaps another", "once"],
 )
-def test_a_once_that_waits_for_itself(stack: Stack, begins: Optional[str]) -> None:
+def test_a_once_that_waits_for_itself(stack: Stack, begins: str | None) -> None:
     says = of_once(stack)
     assert says.startswith(begins) if begins else not says
 

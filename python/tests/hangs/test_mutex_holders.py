@@ -2,7 +2,6 @@
 a few lines."""
 
 from pathlib import Path
-from typing import Optional
 
 import pytest
 
@@ -93,7 +92,7 @@ class Book:
         self.waiters[wait.name] = Waiter(wait.name, 3, stack, None, wait)
         return wait
 
-    def holders(self, position: Optional[int] = None) -> MutexHolders:
+    def holders(self, position: int | None = None) -> MutexHolders:
         position = self.recording.length if position is None else position
         return MutexHolders(self.recording, self.waiters, position, lambda name: self.does.get(name, ""))
 

@@ -75,7 +75,10 @@ def test_sentences_beside_those_of_a_need(monkeypatch: Patch) -> None:
 )  # fmt: skip
 def test_bytes_that_nobody_reads(change: dict[str, Any], count: int | None, monkeypatch: Patch) -> None:
     case = Made(**({"read": 2, "wrote_last": 7, "calls": [], "of_go": False, "known": True, "cut": False} | change))
-    case.calls = [unread_bytes if unread_bytes[2] != 9 or unread_bytes[0] == CLOSE else (*unread_bytes[:2], 25, unread_bytes[3]) for unread_bytes in case.calls]
+    case.calls = [
+        unread_bytes if unread_bytes[2] != 9 or unread_bytes[0] == CLOSE else (*unread_bytes[:2], 25, unread_bytes[3])
+        for unread_bytes in case.calls
+    ]
     wrote = Made(name="Write", socket=3, first=5, last=case.wrote_last, goroutine=1)
     calls = [wrote, *(Made(name=n, socket=s, last=last, first=begin) for n, s, last, begin in case.calls)]
     moved = {(3, "Write"): 5, (4, "Read"): case.read}
@@ -88,7 +91,10 @@ def test_bytes_that_nobody_reads(change: dict[str, Any], count: int | None, monk
         by_socket={s: [unread_bytes for unread_bytes in calls if unread_bytes.socket == s] for s in (3, 4)},
         last_use=lambda socket, until, names: wrote,
     )
-    found = [(unread_bytes.write, unread_bytes.bytes, unread_bytes.socket) for unread_bytes in unread_bytes.unread(cast(Any, index), 20)]
+    found = [
+        (unread_bytes.write, unread_bytes.bytes, unread_bytes.socket)
+        for unread_bytes in unread_bytes.unread(cast(Any, index), 20)
+    ]
     assert found == ([(wrote, count, 4)] if count else [])
 
 
@@ -125,7 +131,10 @@ def test_channels_that_a_goroutine_found_closed(use: tuple[int, int], found: boo
     recording = with_lines(TWO_ENDS)
     recording.lines.stacks[4] = Stack((line_of(3, "main.look"),), None)
     recording.lines.uses[5] = [ObjectUse(5, 7, what, 4, 1, *use, 30, 40) for what in (ENDED, TOOK)]
-    says = [(closed_channel.object, closed_channel.looker) for closed_channel in cancellations.found_closed(recording, 7, 3, 6)]
+    says = [
+        (closed_channel.object, closed_channel.looker)
+        for closed_channel in cancellations.found_closed(recording, 7, 3, 6)
+    ]
     assert says == ([(5, "main.look")] if found else [])
     assert not list(cancellations.found_closed(recording, 8, 3, 6))
 
@@ -243,7 +252,9 @@ def test_what_a_read_looks_for(change: dict[str, Any], says: list[str], monkeypa
         recording=Made(lines=Made(of=lambda step: Stack((), None))), by_socket={3: [Made(first=2), Made(first=9)]},
         moved=lambda socket, name, until: int(socket == case.wrote and name == "Write"),
     )  # fmt: skip
-    assert ends_of_reads.end_sentence(cast(Any, index), cast(Any, Made(name=case.name, first=9, socket=3)), 4, 20) == says
+    assert (
+        ends_of_reads.end_sentence(cast(Any, index), cast(Any, Made(name=case.name, first=9, socket=3)), 4, 20) == says
+    )
 
 
 @pytest.mark.parametrize(
@@ -340,7 +351,9 @@ def test_a_piece_of_source_is_shown_once(monkeypatch: Patch) -> None:
     monkeypatch.setattr(first_output, "tree_lines", lambda graph, hang: [])
     shown = set[int]()
     hangs = [Made(is_deadlock=is_deadlock, needs=[Made(stopped=step)]) for is_deadlock, step in ((False, 41), (False, 42), (True, 51), (False, 52))]  # fmt: skip
-    lines_of_hangs = [first_output.hang_lines(cast(Any, Made(recording=None)), cast(Any, hang), shown) for hang in hangs]
+    lines_of_hangs = [
+        first_output.hang_lines(cast(Any, Made(recording=None)), cast(Any, hang), shown) for hang in hangs
+    ]
     assert lines_of_hangs == [["source after 41"], [], [], ["source after 52"]]
 
 
@@ -370,7 +383,9 @@ def test_a_request_in_a_datagram_that_got_no_answer(change: dict[str, Any], says
         (8, ""),
         (4, " It asked for 4 bytes and got as many: perhaps the datagram was longer, and cut."),
     ):
-        monkeypatch.setattr(datagrams, "read_sizes_of", lambda recording, requested=requested: Made(of=lambda call: requested))
+        monkeypatch.setattr(
+            datagrams, "read_sizes_of", lambda recording, requested=requested: Made(of=lambda call: requested)
+        )
         index = Made(recording=None, last_use=lambda socket, step, names: wrote, by_goroutine={2: calls})
         call = cast(Any, Made(socket=3, first=6, last=20, goroutine=1))
         found = datagrams.dropped_datagram(cast(Any, index), call)

@@ -4,10 +4,10 @@ it doesn't apply."""
 import re
 from typing import Any
 
+from netrev.findings.evidence.call_words import result_words
 from netrev.findings.evidence.past_tense import in_the_past
 from netrev.findings.evidence.siblings import odd_goroutines
 from netrev.findings.evidence.waiters import waiters_at
-from netrev.findings.evidence.call_words import result_words
 from netrev.findings.pools.balances import balances_of, give_back, has_ended
 from netrev.findings.streams.ends_of_reads import bound_sentence, end_sentence
 from netrev.findings.streams.exchanges import unanswered, unasked
@@ -22,8 +22,8 @@ from netrev.recording.where import OF_THE_PROGRAM
 from netrev.recording.where import SourceCall as LineCall
 from netrev.recording.where import SourceLines, Stack
 from netrev.run.index import run_of
-from netrev_go.log.socket_facts import Beside
 from netrev_go.log.points import Point, PointKind
+from netrev_go.log.socket_facts import Beside
 from tests.failed_calls.test_causes import CAUSED, GETS, TWO_ENDS, UNLOCKS, with_lines
 
 

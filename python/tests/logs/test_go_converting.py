@@ -1,7 +1,7 @@
 """Go's points become the steps that they represent, in made-up logs of a few points each. No program is needed."""
 
 import json
-from typing import Any, Optional
+from typing import Any
 
 import pytest
 
@@ -282,7 +282,7 @@ def test_a_firing_of_an_earlier_use_is_of_that_use() -> None:
     assert log.steps()[-1] == ["fire", 0, "stale"]
 
 
-def sockets(count: int, closed: Optional[set[int]] = None) -> Points:
+def sockets(count: int, closed: set[int] | None = None) -> Points:
     log = Points()
     for i in range(count):
         log.opened(10_000 + 16 * i, 50_000 + 300 * i, g=i + 1)

@@ -4,7 +4,7 @@ No program is needed."""
 import json
 import pathlib
 import tempfile
-from typing import Any, Optional
+from typing import Any
 
 import pytest
 
@@ -212,7 +212,7 @@ def of_sync(*names: str) -> Calls:
 
 
 def written(
-    found: Goroutines, calls: dict[int, Calls], numbers: Optional[dict[int, int]] = None, most: int = MOST
+    found: Goroutines, calls: dict[int, Calls], numbers: dict[int, int] | None = None, most: int = MOST
 ) -> SourceLines:
     """The file for a recording of three steps, as nrdb reads it."""
     with tempfile.TemporaryDirectory() as folder:

@@ -3,7 +3,8 @@ program is needed."""
 
 import json
 import struct
-from typing import Any, Optional, Sequence
+from collections.abc import Sequence
+from typing import Any
 
 import pytest
 
@@ -24,7 +25,7 @@ LOCK, OTHER_LOCK = 0xC000_1000, 0xC000_2000
 PLACE_OF_ROWS, PLACE_OF_KNOWN = 12 * 8, 14 * 8  # in a log's header
 
 
-def log_of(rows: Optional[Sequence[HolderRow]], lost: int = 0) -> Log:
+def log_of(rows: Sequence[HolderRow] | None, lost: int = 0) -> Log:
     """A log of a socket, with this table of locked mutexes."""
     return read(binary(opened(1), {3: PointStack(0, 0, (700,))}, holders=rows, holders_lost=lost))
 
@@ -112,7 +113,7 @@ def test_a_table_that_is_too_large_is_none_of_a_log() -> None:
         read(bytes(data))
 
 
-def held_of(holders: Optional[list[LoggedHolder]]) -> Optional[list[LoggedMutex]]:
+def held_of(holders: list[LoggedHolder] | None) -> list[LoggedMutex] | None:
     """The held mutexes of a log without points, for a recording with the steps of `STEPS`."""
     return goroutines_of([], STEPS, 0, holders).held
 

@@ -21,18 +21,18 @@ from netrev.findings.finding import Sentence, SuspectFindings
 from netrev.messages import recorder as messages
 from netrev.recording.recording import NotARecordingError
 from netrev.system.time_limits import LateError
-from netrev_go import cli, doctor, recordings, recovery, go_test_results, release_check
+from netrev_go import cli, doctor, go_test_results, recordings, recovery, release_check
 from netrev_go.go_command import calls_of_go, run_folders, running, toolchain
 from netrev_go.go_command.status import ExitStatus
 from netrev_go.go_command.toolchain import RecorderError
 from netrev_go.log import goroutines, lines, logfile, sockets
-from netrev_go.log.point_answers import can_answer
-from netrev_go.log.socket_facts import OF_UNIX, Beside
 from netrev_go.log.goroutines import NEVER, Goroutines, LoggedChannel, LoggedPark, Passing, Used, UseSpan
 from netrev_go.log.lines import Calls, LineCall
 from netrev_go.log.logfile import HEADER_WORDS, MOST_HOLDERS, MOST_POINTS, MOST_STACKS, UNDER_WAY, Header, NotALogError
 from netrev_go.log.notes import REFERENCES, WAITING, Note
+from netrev_go.log.point_answers import can_answer
 from netrev_go.log.points import Log, Point, PointKind
+from netrev_go.log.socket_facts import OF_UNIX, Beside
 from netrev_go.log.sockets import BUFFER, FEW_BYTES, OUTPUT, LoggedSocket
 from netrev_go.steps import analysis, compare, conversion, forms, recording_builder, report
 

@@ -10,7 +10,6 @@ import pytest
 
 from netrev.recording import goroutines as where
 from netrev.recording.where import SourceLines
-from netrev_go.log.socket_facts import OF_IPV4
 from netrev_go.log.goroutines import (  # fmt: skip
     GENERATION,
     GIVES,
@@ -25,9 +24,10 @@ from netrev_go.log.goroutines import (  # fmt: skip
 )
 from netrev_go.log.lines import OF_GO, OF_THE_PROGRAM, Calls, LineCall, is_ours, outside_the_runtime
 from netrev_go.log.points import PointKind
+from netrev_go.log.socket_facts import OF_IPV4
 from netrev_go.log.tests_in_log import Ran
-from netrev_go.steps.scopes_of_tests import goroutines_of
 from netrev_go.steps.goroutine_lines import CANCELLED, TIMED_OUT
+from netrev_go.steps.scopes_of_tests import goroutines_of
 
 from .test_go_goroutines import CHANNEL, GO_STATEMENT
 from .test_go_goroutines import OF_GO as CALL_OF_GO

@@ -11,7 +11,6 @@ import pytest
 from netrev.machine.in_place import Machine
 from netrev.text.contents import Limits
 from netrev.text.parser import read_text
-from netrev_go.log.point_answers import UnconvertibleError
 from netrev_go.log.notes import (  # fmt: skip
     ARMED,
     CHECKING,
@@ -30,6 +29,7 @@ from netrev_go.log.notes import (  # fmt: skip
     WAIT,
     WRITE_RUNS,
 )
+from netrev_go.log.point_answers import UnconvertibleError
 from netrev_go.log.points import AT_A_SOCKET, AT_A_WORD, Log, Point, PointKind
 from netrev_go.log.prelude import NOBODY
 from netrev_go.steps.recording_builder import NewRecording, NothingRecordedError, make

@@ -3,7 +3,6 @@ needed."""
 
 import json
 import pathlib
-from typing import Optional
 
 from dev.fuzz.generators.logs import binary
 from netrev.recording.where import SourceLines
@@ -147,7 +146,7 @@ def test_a_log_says_whether_it_has_orders() -> None:
 
 def test_nrdb_reads_what_is_written(folder: pathlib.Path) -> None:
     path = folder / "x.where"
-    written: tuple[Optional[list[tuple[int, int]]], ...] = None, [], [(n, n + 1) for n in range(1, 2_500)]
+    written: tuple[list[tuple[int, int]] | None, ...] = None, [], [(n, n + 1) for n in range(1, 2_500)]
     for orders in written:
         write_where(path, [0] * 3_000, {}, orders)
         assert SourceLines.beside(str(path), 3_000).orders == orders

@@ -22,9 +22,9 @@ from netrev_go.go_command.running import logs_in
 from netrev_go.go_command.toolchain import Go, overlay, quiet_go
 from netrev_go.log.logfile import Header, points_of, read_log
 from netrev_go.log.points import Log, Point, PointKind
+from netrev_go.release_check import tried_in
 from netrev_go.steps.compare import by_the_model
 from netrev_go.steps.recording_builder import make, write, write_words
-from netrev_go.release_check import tried_in
 from tests.trials.go_untouched import go_of
 
 RELEASE = "1.27"
@@ -111,7 +111,8 @@ def text_of(log: Log, points: list[Point]) -> str:
         {f"event {point.a} {point.b}{' tagged' * bool(point.c)}" for point in points if point.kind == PointKind.EVENT}
     )
     held = (
-        (names.of("g", holder.goroutine), holder.is_reader, len(log.stacks[holder.stack].calls)) for holder in log.holders or ()
+        (names.of("g", holder.goroutine), holder.is_reader, len(log.stacks[holder.stack].calls))
+        for holder in log.holders or ()
     )
     lines += sorted(f"{g} holds a mutex{' for reading' * is_reader}: stack of {calls}" for g, is_reader, calls in held)
     return "".join(f"{line}\n" for line in lines)

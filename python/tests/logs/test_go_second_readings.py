@@ -2,7 +2,6 @@
 and looks for the end of each wait."""
 
 import random
-from typing import Optional
 
 import pytest
 
@@ -81,7 +80,9 @@ class Synchronized:
         reached: dict[int, set[int]] = {}
         for number in range(len(self.points)):
             near = self.edges[number]
-            reached[number] = set().union(*(reached[number_before] for number_before in near)) | {number_before for number_before in near if number_before in self.steps}
+            reached[number] = set().union(*(reached[number_before] for number_before in near)) | {
+                number_before for number_before in near if number_before in self.steps
+            }
         return {number: reached[number] for number in self.steps}
 
     def found(self) -> Pairs:
@@ -175,7 +176,7 @@ def steps_before(number: int, steps: list[Made]) -> int:
     return sum(1 for at, _, _ in steps if at < number)
 
 
-def end_of(park: Point, points: list[Point]) -> Optional[Point]:
+def end_of(park: Point, points: list[Point]) -> Point | None:
     """The point at which a goroutine continues; None if it parks again before that, or never continues."""
     own = (later for later in points if later.number > park.number and later.goroutine == park.goroutine)
     following = next((later for later in own if later.kind in (PointKind.PARKS, PointKind.GOES_ON)), None)
@@ -193,7 +194,9 @@ def naive_park(parking: Point, points: list[Point], steps: list[Made]) -> Logged
     due = parking.b - BEGIN if parking.a == SLEEP and parking.b > parking.time else 0
     last, ends = (steps_before(end.number, steps), end.time - BEGIN) if end else (UNENDED, UNENDED)
     first, by = steps_before(parking.number, steps), woken[-1] if woken else 0
-    return LoggedPark(parking.goroutine, first, last, parking.time - BEGIN, ends, parking.a, parking.stack, by, objects, due)
+    return LoggedPark(
+        parking.goroutine, first, last, parking.time - BEGIN, ends, parking.a, parking.stack, by, objects, due
+    )
 
 
 @pytest.mark.parametrize("seed", range(40))
@@ -228,7 +231,9 @@ def test_waits_of_a_recording_are_those_with_a_step_in_them(seed: int) -> None:
     points, steps = random_waits(seed)
     found, numbers, since = goroutines_of(points, steps, BEGIN), {1: 0, 2: 1, 3: 2}, {3: 5}
     ended = sorted(
-        (end.number, point.number) for point in points if point.kind == PointKind.PARKS and (end := end_of(point, points))
+        (end.number, point.number)
+        for point in points
+        if point.kind == PointKind.PARKS and (end := end_of(point, points))
     )
     by_number = dict(zip((point.number for point in points if point.kind == PointKind.PARKS), found.parks))
     never = [number for number, park in by_number.items() if park.last == UNENDED]
@@ -243,14 +248,14 @@ def test_waits_of_a_recording_are_those_with_a_step_in_them(seed: int) -> None:
     assert waits_of(found, numbers, since) == expected
 
 
-def overlap(begin: int, end: Optional[int], first: int, last: int) -> bool:
+def overlap(begin: int, end: int | None, first: int, last: int) -> bool:
     """Whether two periods overlap; a wait without an end lasts to the end of the log."""
     moments = range(begin, (2_000 if end is None else end) + 1)
     return any(first <= moment and (last == UNENDED or moment <= last) for moment in moments)
 
 
 @pytest.mark.parametrize("begin, end", [(0, None), (300, 500), (500, 500), (505, 509), (990, None), (0, 0)])
-def test_those_during_a_time_have_a_moment_in_it(begin: int, end: Optional[int]) -> None:
+def test_those_during_a_time_have_a_moment_in_it(begin: int, end: int | None) -> None:
     found: Goroutines = goroutines_of(*random_waits(1), BEGIN)
     during = found.during(begin, end)
     assert during.parks == [park for park in found.parks if overlap(begin, end, park.begin, park.end)]

@@ -135,7 +135,9 @@ def made_of(drawn_part: Drawn, symbols: Symbols) -> str:
     with tempfile.TemporaryDirectory() as name, looked_up(symbols):
         folder = Path(name)
         go = Go("go", SOURCES.parent, "go1.27.3", "linux/amd64", "") if drawn.has_lines else None
-        outcome = converted(ReadLog(Path("log.1"), drawn.log, drawn.tests), folder / "made.jsonl", go, drawn.wish, drawn.test)
+        outcome = converted(
+            ReadLog(Path("log.1"), drawn.log, drawn.tests), folder / "made.jsonl", go, drawn.wish, drawn.test
+        )
         files = "".join(f"{path.name}:\n{path.read_text()}" for path in sorted(folder.iterdir()))
         text = "\n".join(outcome.lines).replace(f"{folder}/", "")
     return f"taken {outcome.taken}, empty {outcome.is_empty}\n{text}\n{files}"

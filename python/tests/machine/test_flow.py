@@ -1,7 +1,7 @@
 """The table of Go's control flow, compared with the machine: in random recordings, each step has the consequence that its row names."""
 
 import random
-from typing import Iterator
+from collections.abc import Iterator
 
 import pytest
 

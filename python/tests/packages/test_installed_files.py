@@ -8,7 +8,7 @@ from pathlib import Path
 
 import pytest
 
-from netrev.system import program_path, launcher
+from netrev.system import launcher, program_path
 from netrev_go import options
 from nrdb import cli
 

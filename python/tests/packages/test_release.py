@@ -107,13 +107,18 @@ def test_notes_are_those_of_the_version_and_of_what_is_unreleased(tmp_path: Path
     process = notes(tmp_path, "1.1.0")
     assert process.returncode == 0, process.stderr
     assert (
-        process.stdout == "# netrev 1.1.0\n\n### Fixed\n\n- A new thing.\n\n- Of one.\n\n## What it has\n\n- More of one.\n"
+        process.stdout
+        == "# netrev 1.1.0\n\n### Fixed\n\n- A new thing.\n\n- Of one.\n\n## What it has\n\n- More of one.\n"
     )
 
 
 def test_a_version_that_is_not_in_the_changelog_has_no_notes(tmp_path: Path) -> None:
     process = notes(tmp_path, "2.0.0")
-    assert (process.returncode, process.stdout, process.stderr) == (1, "", "notes.py: CHANGELOG.md has no section 2.0.0\n")
+    assert (process.returncode, process.stdout, process.stderr) == (
+        1,
+        "",
+        "notes.py: CHANGELOG.md has no section 2.0.0\n",
+    )
 
 
 def test_what_passed_the_gate_is_packed(tree: Path) -> None:
@@ -164,7 +169,10 @@ def test_a_release_wants_a_gate_after_which_no_file_has_changed(tree: Path) -> N
     assert run(tree, "scripts/unchanged.sh").returncode == 0
     os.utime(tree / "scripts/notes.py", (now + 10, now + 10))
     process = run(tree, "scripts/unchanged.sh")
-    assert (process.returncode, process.stderr) == (1, "scripts/notes.py has changed after the gate: run `make test` again.\n")
+    assert (process.returncode, process.stderr) == (
+        1,
+        "scripts/notes.py has changed after the gate: run `make test` again.\n",
+    )
 
 
 def test_make_release_asks_before_it_packs() -> None:

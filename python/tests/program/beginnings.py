@@ -8,9 +8,9 @@ one. So one shell for each processor of the machine runs netrev, and checks many
 import os
 import signal
 import subprocess
+from collections.abc import Sequence
 from concurrent.futures import ThreadPoolExecutor
 from pathlib import Path
-from typing import Optional, Sequence
 
 from tests.support.examples import REFUSED
 
@@ -36,7 +36,7 @@ def wanted_of(place: object, fault: object) -> Printed:
     return (0, f"ok {fault} steps\n") if isinstance(fault, int) else (1, f"{place}: fault {fault}\n")
 
 
-def beginning(text: bytes, differs: Optional[int]) -> Printed:
+def beginning(text: bytes, differs: int | None) -> Printed:
     """The expected output for a prefix of a recording. A last line that isn't whole is malformed. Step `differs`, if
     given, has a recorded answer that isn't the machine's."""
     lines = text.split(b"\n")
@@ -48,7 +48,7 @@ def beginning(text: bytes, differs: Optional[int]) -> Printed:
     return wanted_of(f"line {len(lines)}", "102 not JSON")
 
 
-def every_beginning(folder: Path, whole: bytes, differs: Optional[int]) -> None:
+def every_beginning(folder: Path, whole: bytes, differs: int | None) -> None:
     """Cuts the text at each byte. A line that lacks only its line feed is read like any other line."""
 
     def cut(sizes: range) -> None:

@@ -71,7 +71,9 @@ class Player:
         lines = process.stdout.decode().splitlines()
         last = lines[-1].removeprefix(f"{call}: ") if lines else ""
         if process.returncode or process.stderr or "grant" not in lines or last not in (RIGHT, REFUSED):
-            raise WrongResultError(f"status {process.returncode}, {process.stdout.decode()!r} and {process.stderr.decode()!r}")
+            raise WrongResultError(
+                f"status {process.returncode}, {process.stdout.decode()!r} and {process.stderr.decode()!r}"
+            )
         return last, self.told.stat().st_size > 0
 
     def refuse_each(self, call, behind):

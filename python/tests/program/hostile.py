@@ -259,7 +259,9 @@ COMMANDS = (
 
 def printed(words, text=b""):
     """netrev's status, and the last lines that it prints."""
-    process = subprocess.run([NETREV, *words], input=text, stdout=subprocess.PIPE, stderr=subprocess.PIPE, timeout=PATIENCE)
+    process = subprocess.run(
+        [NETREV, *words], input=text, stdout=subprocess.PIPE, stderr=subprocess.PIPE, timeout=PATIENCE
+    )
     expect("errors", b"", process.stderr)
     return process.returncode, process.stdout.decode()
 

@@ -46,7 +46,11 @@ class Case:
             timeout=PATIENCE,
             check=False,
         )
-        expect("status, output and errors", (0, self.output, b""), (process.returncode, process.stdout.decode(), process.stderr))
+        expect(
+            "status, output and errors",
+            (0, self.output, b""),
+            (process.returncode, process.stdout.decode(), process.stderr),
+        )
 
 
 CASES = (

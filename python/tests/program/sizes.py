@@ -9,8 +9,8 @@ import socket
 import subprocess
 import tempfile
 import threading
+from collections.abc import Callable, Iterable, Iterator, Sequence
 from pathlib import Path
-from typing import Callable, Iterable, Iterator, Sequence
 
 import pytest
 
@@ -57,7 +57,9 @@ def printed(words: Sequence[object], script: str = "") -> tuple[int, str, str]:
 def same(what: str, right: str, reply: str) -> None:
     """Checks that a text, which may be long, is right, and prints the first difference."""
     if right != reply:
-        at = next((at for at, (item, other) in enumerate(zip(right, reply)) if item != other), min(len(right), len(reply)))
+        at = next(
+            (at for at, (item, other) in enumerate(zip(right, reply)) if item != other), min(len(right), len(reply))
+        )
         raise WrongResultError(
             f"{what}, from character {at}: expected {right[at : at + 60]!r}, came {reply[at : at + 60]!r}"
         )
@@ -253,7 +255,9 @@ def play_commands(folder: Path) -> None:
 def greatest_memory(path: Path, steps: int) -> int:
     """The peak memory of netrev, in bytes, after it has read a recording. (The figure from `wait4` includes this
     process's memory from before the program began.)"""
-    with subprocess.Popen([NETREV, "run", str(path)], stdin=subprocess.PIPE, stdout=subprocess.PIPE, text=True) as process:
+    with subprocess.Popen(
+        [NETREV, "run", str(path)], stdin=subprocess.PIPE, stdout=subprocess.PIPE, text=True
+    ) as process:
         assert process.stdin and process.stdout
         process.stdin.write("info position\n")
         process.stdin.flush()

@@ -289,7 +289,9 @@ def words():
 
 def play_words(given, status, errors, folder, output=b""):
     """Calls netrev in the folder with these arguments."""
-    process = subprocess.run([NETREV, *given], cwd=folder, input=b"", capture_output=True, timeout=PATIENCE, check=False)
+    process = subprocess.run(
+        [NETREV, *given], cwd=folder, input=b"", capture_output=True, timeout=PATIENCE, check=False
+    )
     expect("status, output and errors", (status, output, errors), (process.returncode, process.stdout, process.stderr))
 
 

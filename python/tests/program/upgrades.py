@@ -10,7 +10,6 @@
 
 import subprocess
 from pathlib import Path
-from typing import Union
 
 import pytest
 
@@ -24,7 +23,7 @@ ANSWERS, OTHER, SHUT = (ROOT / f"examples/{name}.jsonl" for name in ("answers", 
 DIFFERS = f"step {examples.REFUSED['other-answer']}: fault 109 answer\n".encode()
 
 # a program and its file, the status, and the output, given as a text or as a file that contains it
-STORED: tuple[tuple[str, Path, int, Union[bytes, Path]], ...] = (
+STORED: tuple[tuple[str, Path, int, bytes | Path], ...] = (
     ("check", ANSWERS, 0, b"ok 12 steps\n"),
     ("upgrade", WOKEN, 0, ANSWERS),
     ("upgrade", ANSWERS, 0, ANSWERS),

@@ -15,11 +15,11 @@ from netrev.session.line_index import is_place, places_of
 from netrev.session.session import Session
 from netrev.session.source import source_of, text_around
 from netrev.system.interrupts import Interrupts
+from nrdb.dap.breakpoint_requests import BreakpointError, wish_of
 from nrdb.dap.go_lines import GoLines
 from nrdb.dap.logpoints import LogPoints
 from nrdb.dap.view.debuggee import Debuggee
 from nrdb.dap.view.roots import Roots
-from nrdb.dap.breakpoint_requests import BreakpointError, wish_of
 from nrdb.prompt.answers import ANSWERS
 from nrdb.web.shared_session import OF_THE_PAGE
 from tests.failed_calls.test_causes import CAUSED, in_the_folder_of_the_source

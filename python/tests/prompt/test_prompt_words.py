@@ -4,8 +4,8 @@ debuggers' words."""
 import io
 import os
 import pty
+from collections.abc import Iterator
 from pathlib import Path
-from typing import Iterator
 
 import pytest
 

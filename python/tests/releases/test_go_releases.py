@@ -21,9 +21,9 @@ from netrev_go.go_command.calls_of_go import known_calls, table
 from netrev_go.go_command.toolchain import TRIED, Go, RecorderError, is_tried, release_of, tried
 from netrev_go.log.logfile import read_log
 from netrev_go.log.points import PointKind
+from netrev_go.release_check import Trial, incomplete, ready, unchained
 from netrev_go.steps.compare import DIFFERS, REFUSES, by_the_model
 from netrev_go.steps.recording_builder import NewRecording, make, write, write_words
-from netrev_go.release_check import Trial, incomplete, ready, unchained
 from tests.logs.test_go_converting import DESCRIPTOR, WORD, Points
 from tests.support.stubs import raising
 

@@ -5,7 +5,7 @@ import string
 from collections.abc import Iterator
 from functools import cache
 from pathlib import Path
-from typing import NamedTuple, Optional
+from typing import NamedTuple
 
 import pytest
 
@@ -63,7 +63,7 @@ class Use(NamedTuple):
     table: str
     name: str
     place: str
-    given: Optional[frozenset[str]]
+    given: frozenset[str] | None
 
 
 @cache
@@ -96,7 +96,7 @@ def tables_in(tree: ast.Module) -> dict[str, str]:
     }
 
 
-def message_of(node: ast.expr, known: dict[str, str]) -> Optional[tuple[str, str]]:
+def message_of(node: ast.expr, known: dict[str, str]) -> tuple[str, str] | None:
     """The table and the name of a message, in an expression such as messages.NO_GO."""
     if isinstance(node, ast.Attribute) and isinstance(node.value, ast.Name) and node.value.id in known:
         return known[node.value.id], node.attr

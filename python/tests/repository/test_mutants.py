@@ -8,9 +8,9 @@ from pathlib import Path
 import pytest
 
 from mutating import equivalent
-from mutating.recorded_calls import name_of, qualified
 from mutating.changes import FORGOTTEN, KINDS, Mutant, can_compile, mutants_of
 from mutating.go_changes import go_mutants_of
+from mutating.recorded_calls import name_of, qualified
 from mutating.server import changed_codes, codes_in
 from mutating.topics import OVERRIDES, Test, Topics, digest, read_overrides
 from mutating.trials import all_mutants, drawn
@@ -81,7 +81,9 @@ def test_a_mutant_s_code_is_put_into_its_function_alone(module: Path) -> None:
 
 def of_tests(most: float = 60) -> tuple[Topics, Mutant]:
     """Tests of the functions of a module, and a mutant of its function `holders_of`."""
-    mutant = next(mutant for mutant in all_mutants(ROOT, [HOLDERS]) if mutant.code == "holders_of" and mutant.kind == FORGOTTEN)
+    mutant = next(
+        mutant for mutant in all_mutants(ROOT, [HOLDERS]) if mutant.code == "holders_of" and mutant.kind == FORGOTTEN
+    )
     called = {
         "a.py::test_slow": (5.0, f"{HOLDERS}|holders_of"), "b.py::Kept::test_that": (1.0, f"{HOLDERS}|holders_of"),
         "b.py::Kept::test_those[1]": (0.5, f"{HOLDERS}|holders_of"), "c.py::test_other": (0.1, f"{HOLDERS}|other"),

@@ -2,7 +2,7 @@
 results; and the destinations of `next`, `finish` and their reverses."""
 
 import random
-from typing import Any, NamedTuple, Optional
+from typing import Any, NamedTuple
 
 import pytest
 
@@ -34,7 +34,7 @@ class Made(NamedTuple):
 class Telling(Traffic):
     """Traffic that reports its calls."""
 
-    def __init__(self, seed: int, bug: Optional[Bug] = None) -> None:
+    def __init__(self, seed: int, bug: Bug | None = None) -> None:
         super().__init__(seed, bug, LENGTH)
         self.told: list[Made] = []
         self.last_of: dict[int, int] = {}
@@ -76,7 +76,7 @@ def seen(call: Call) -> Made:
     return Made(call.goroutine, call.name, call.socket, call.first, call.last, call.outcome)
 
 
-def compare(item: Optional[Call], author_call: Made) -> None:
+def compare(item: Call | None, author_call: Made) -> None:
     """Compares a call that nrdb found with the call that was made."""
     assert item is not None, author_call
     found = seen(item)
@@ -132,7 +132,11 @@ def test_errors_are_the_calls_that_failed() -> None:
         recording = Recording(traffic.text())
         at = recording.length // 2
         table = errors_table(recording, at, None)
-        failed = {author_call.first for author_call in traffic.told if author_call.last and author_call.outcome in ENDS.values()}
+        failed = {
+            author_call.first
+            for author_call in traffic.told
+            if author_call.last and author_call.outcome in ENDS.values()
+        }
         rows = [row for row in table.rows if row.values]  # (rows without values give reasons)
         result = {row.values["first"] for row in rows}
         assert failed <= result
@@ -163,7 +167,11 @@ def test_leads_to_the_ends_of_calls() -> None:
         for _ in range(40):
             at = dice.randint(100, recording.length)
             g = goroutine_at(recording, at)
-            inside = [author_call for author_call in traffic.told if author_call.goroutine == g and author_call.first <= at < author_call.last]
+            inside = [
+                author_call
+                for author_call in traffic.told
+                if author_call.goroutine == g and author_call.first <= at < author_call.last
+            ]
             if inside:
                 assert GOALS["finish"](recording, g, at).position == inside[-1].last
                 assert GOALS["reverse-finish"](recording, g, at).position == inside[-1].first - 1
@@ -179,12 +187,16 @@ def test_next_and_its_reverse_pass_whole_calls() -> None:
     assert len(own) > 20
     for author_call in own:
         assert GOALS["next"](recording, author_call.goroutine, author_call.first - 1).position == author_call.last
-        assert GOALS["reverse-next"](recording, author_call.goroutine, author_call.last).position == author_call.first - 1
+        assert (
+            GOALS["reverse-next"](recording, author_call.goroutine, author_call.last).position == author_call.first - 1
+        )
         if author_call.last > author_call.first:  # within the call, the goroutine's own steps count
             goal = GOALS["next"](recording, author_call.goroutine, author_call.first)
             assert goal.call is None
             own_steps = [
-                n for n in range(author_call.first + 1, author_call.last + 1) if recording.step(n).argument("g") == author_call.goroutine
+                n
+                for n in range(author_call.first + 1, author_call.last + 1)
+                if recording.step(n).argument("g") == author_call.goroutine
             ]
             assert goal.position == own_steps[0]
 

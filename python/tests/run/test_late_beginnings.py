@@ -4,8 +4,8 @@ steps that lead to the first state."""
 from typing import Any
 
 from netrev.findings.causes import first_words
-from netrev.findings.evidence.waiters import waiters_at
 from netrev.findings.evidence.call_words import place_of_step, since_begin
+from netrev.findings.evidence.waiters import waiters_at
 from netrev.findings.handovers.givers import only_itself, untouched
 from netrev.findings.streams.ends_of_reads import end_sentence
 from netrev.recording.goroutines import FOR_ROOM, At, ObjectUse

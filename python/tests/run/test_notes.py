@@ -3,7 +3,8 @@ none. The pauses equal those that are found by examining each step alone."""
 
 import random
 from collections import defaultdict
-from typing import Any, Callable, Iterator, Sequence
+from collections.abc import Callable, Iterator, Sequence
+from typing import Any
 
 import pytest
 

@@ -1,9 +1,9 @@
 """The output of `netrev changes`, stored and queried: compared with the model, whole and in pieces, with faults,
 with a failing netrev, and interrupted."""
 
+from collections.abc import Iterator
 from pathlib import Path
 from threading import Thread
-from typing import Iterator
 
 import pytest
 

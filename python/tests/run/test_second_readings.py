@@ -2,7 +2,8 @@
 definitions, from all states of the model. Its calls must be those that the random program made."""
 
 import random
-from typing import Any, Iterator
+from collections.abc import Iterator
+from typing import Any
 
 import pytest
 
@@ -275,7 +276,9 @@ class Naive:
                 self.of[d].passings[side].append((number, kind))
         elif kind == "fire":
             for d, (old, new) in enumerate(zip(before.descs, after.descs)):
-                for side in (side for side, deadline, other in zip("rw", old.deadlines, new.deadlines) if deadline > 0 > other):
+                for side in (
+                    side for side, deadline, other in zip("rw", old.deadlines, new.deadlines) if deadline > 0 > other
+                ):
                     self.of[d].passings[side].append((number, kind))
         elif kind == "pollevent":
             self.event(number, arguments, answer)
@@ -312,7 +315,9 @@ def test_notes_are_what_the_states_say(seed: int) -> None:
     assert [all_of(use) for use in notes.uses] == [use.all() for use in naive.uses]
     assert {name: getattr(notes, name) for name in naive.when} == naive.when
     assert notes.again == naive.again and notes.refused_writes == naive.refused
-    assert [(timeout.step, timeout.goroutine, timeout.descriptor, timeout.side) for timeout in notes.timeouts] == naive.timeouts
+    assert [
+        (timeout.step, timeout.goroutine, timeout.descriptor, timeout.side) for timeout in notes.timeouts
+    ] == naive.timeouts
     for s, holds in notes.holds.items():
         held = [(timeout.step, timeout.goroutine, timeout.side) for timeout in holds]
         assert held == holders(steps_of(text, worlds), s)

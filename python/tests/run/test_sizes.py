@@ -8,8 +8,8 @@ from netrev.findings.evidence.sizes import are_known, moved_at, size_of
 from netrev.recording.recording import Recording
 from netrev.recording.where import SourceLines
 from netrev.run.index import run_of
-from netrev_go.log.socket_facts import OF_UNIX, Beside
 from netrev_go.log.points import Point, PointKind
+from netrev_go.log.socket_facts import OF_UNIX, Beside
 from tests.hangs.test_needs import stored
 
 

@@ -10,8 +10,8 @@ import sys
 import tempfile
 import threading
 import unicodedata
+from collections.abc import Callable, Iterator
 from pathlib import Path
-from typing import Callable, Iterator
 
 import pytest
 

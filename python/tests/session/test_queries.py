@@ -5,7 +5,6 @@ import os
 import tempfile
 import threading
 from collections.abc import Iterator, Sequence
-from typing import Optional
 
 import pytest
 
@@ -29,17 +28,17 @@ class Scripted(Netrev):
     def _send(self, text: bytes) -> None:
         self.sent.append(text.decode().splitlines())
 
-    def _next(self, request: str) -> Optional[str]:
+    def _next(self, request: str) -> str | None:
         if request.endswith("strange"):
             raise StrangeReplyError(request, "x")
         return None if request.endswith("end") else f"clock = {request.split()[-1]}"
 
-    def close(self) -> Optional[int]:
+    def close(self) -> int | None:
         return 5
 
 
 class WithoutMemory(Scripted):
-    def _next(self, request: str) -> Optional[str]:
+    def _next(self, request: str) -> str | None:
         return "fault 301 memory"
 
 

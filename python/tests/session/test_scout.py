@@ -4,8 +4,8 @@ import gc
 from pathlib import Path
 
 from netrev.connection.scout import Scout
-from netrev.system.interrupts import Interrupts
 from netrev.system.garbage_collection import take_all_as_kept
+from netrev.system.interrupts import Interrupts
 from tests.support.model_sessions import Modelled, recording_at
 
 MODEL = recording_at(Path(__file__).resolve().parents[3] / "examples/leaked-reference.jsonl")

@@ -42,7 +42,9 @@ def test_a_datagram_from_another_address(change: dict[str, Any], says: bool, mon
         wrote = Made(first=begin, socket=9, steps=lambda: f"step {begin}")
         return undelivered_datagrams.Sent(cast(Any, wrote), case.source, target)
 
-    monkeypatch.setattr(undelivered_datagrams, "sent_at", lambda index: [sent(19, "a:7"), sent(case.first, case.target)])
+    monkeypatch.setattr(
+        undelivered_datagrams, "sent_at", lambda index: [sent(19, "a:7"), sent(case.first, case.target)]
+    )
     monkeypatch.setattr(undelivered_datagrams, "text_of_call", lambda recording, call: "Write")
     monkeypatch.setattr(undelivered_datagrams, "opened_at", lambda index, socket: ", opened")
     reads = [Made(name=case.name, moved=case.moved, last=case.last), Made(name="Read", moved=5, last=2)]
@@ -57,7 +59,9 @@ def test_a_datagram_from_another_address(change: dict[str, Any], says: bool, mon
 
 def test_the_first_datagram_from_another_address_is_named(monkeypatch: Patch) -> None:
     every = [
-        undelivered_datagrams.Sent(cast(Any, Made(first=begin, socket=9, steps=lambda begin=begin: f"step {begin}")), "c:4", "a:1")
+        undelivered_datagrams.Sent(
+            cast(Any, Made(first=begin, socket=9, steps=lambda begin=begin: f"step {begin}")), "c:4", "a:1"
+        )
         for begin in (9, 6, 7)
     ]
     monkeypatch.setattr(undelivered_datagrams, "sent_at", lambda index: every)
@@ -187,7 +191,9 @@ def test_what_a_goroutine_wrote_and_read_in_turn(calls: str, found: str) -> None
             )
         )  # fmt: skip
     says = exchanges.exchanges_of(cast(Any, Made(by_socket={3: turns})), 1, 3, 9)
-    texts = ["/".join(",".join(str(call.first) for call in part) for part in (word.writes, word.reads)) for word in says]
+    texts = [
+        "/".join(",".join(str(call.first) for call in part) for part in (word.writes, word.reads)) for word in says
+    ]
     assert " ".join(texts) == found
     assert exchanges.exchanges_of(cast(Any, Made(by_socket={})), 1, 3, 9) == []
 
@@ -207,7 +213,11 @@ def test_whether_all_requests_were_answered(
         step = int(word[1])
         turns.append(
             Made(
-                name="Read" if word[0] == "r" else "Write", first=step, last=step, moved=4, goroutine=2 if word[2:] else 1
+                name="Read" if word[0] == "r" else "Write",
+                first=step,
+                last=step,
+                moved=4,
+                goroutine=2 if word[2:] else 1,
             )
         )
     monkeypatch.setattr(

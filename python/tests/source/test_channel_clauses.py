@@ -177,7 +177,9 @@ def test_an_end_that_a_relay_didn_t_pass_on(change: dict[str, Any], says: bool, 
     case = Made(**(usual | change))
     call, other = Made(outcome=case.outcome, name=case.name), Made(outcome=Outcome.EOF, name="Read")
     monkeypatch.setattr(unpassed_ends, "is_of_go", lambda recording, given_call: given_call is call and case.of_go)
-    monkeypatch.setattr(unpassed_ends, "last_write_of_relay", lambda index, given_call: case.wrote if given_call is call else wrote)
+    monkeypatch.setattr(
+        unpassed_ends, "last_write_of_relay", lambda index, given_call: case.wrote if given_call is call else wrote
+    )
     monkeypatch.setattr(unpassed_ends, "reader_of", lambda index, socket: case.reader if not case.told else reader)
     case.told = False
     index = Made(
@@ -185,7 +187,9 @@ def test_an_end_that_a_relay_didn_t_pass_on(change: dict[str, Any], says: bool, 
         closing=lambda socket, step: "close" if socket == 4 and 0 < case.closing <= step else None,
     )  # fmt: skip
     found = list(unpassed_ends.unpassed_ends(cast(Any, index)))
-    assert [(given_call.met, given_call.write, given_call.waits) for given_call in found] == [(call, wrote, reader)] * says
+    assert [(given_call.met, given_call.write, given_call.waits) for given_call in found] == [
+        (call, wrote, reader)
+    ] * says
     index.calls = [call, other]
     case.told, case.closing = True, 0
     assert [given_call.met for given_call in unpassed_ends.unpassed_ends(cast(Any, index))][-1] is other
@@ -369,7 +373,9 @@ def test_a_goroutine_that_ended_after_a_failure(change: dict[str, Any], whose: s
     call = Made(goroutine=4, first=6, last=8)
     later = [Made(first=case.later, name=case.name)] if case.later else []
     monkeypatch.setattr(first_output, "run_of", lambda recording: Made(by_goroutine={4: [call, *later]}))
-    monkeypatch.setattr(first_output, "ended_after", lambda index, given_call, position: case.ended if position == 20 else None)
+    monkeypatch.setattr(
+        first_output, "ended_after", lambda index, given_call, position: case.ended if position == 20 else None
+    )
     monkeypatch.setattr(first_output, "goid_of", lambda recording, name: 7)
     monkeypatch.setattr(first_output, "waits_words", lambda wait: "waits")
     waiters = {

@@ -40,7 +40,9 @@ def test_a_function_that_a_context_s_end_started(change: dict[str, Any], says: s
     }  # fmt: skip
     case = Made(**(usual | change))
     monkeypatch.setattr(
-        cancellations, "contains", lambda stack, function: function == cancellations.OF_A_CONTEXT and stack[1] == function
+        cancellations,
+        "contains",
+        lambda stack, function: function == cancellations.OF_A_CONTEXT and stack[1] == function,
     )
     monkeypatch.setattr(
         cancellations, "limits_before", lambda recording, begin, least: ["5s"] if case.limits and begin == 20 else []

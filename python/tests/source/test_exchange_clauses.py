@@ -7,7 +7,7 @@ from typing import Any, cast
 import pytest
 
 from netrev.findings.causes import leftovers
-from netrev.findings.evidence import deadlines_ahead, call_words
+from netrev.findings.evidence import call_words, deadlines_ahead
 from netrev.findings.streams import exchanges, flushes, gone_readers
 from netrev.recording.where import OF_GO, SourceCall, Stack
 

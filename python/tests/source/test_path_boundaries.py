@@ -75,8 +75,13 @@ def test_loops_share_variables_before_a_language_version(
     known = {goid: Made(made=call) for goid, call in enumerate([*calls, calls[0], None], 1)}
     recording = cast(Any, Made(lines=Made(goroutines=known, written=float("inf"))))
     found = loop_variables.shared_variables(recording, str(folder / file))
-    assert [sentence.partition(" use the last v of the loop at ")[0][-6:] for sentence in found] == ["a.go:5", "a.go:6"] * says
-    assert all(sentence.partition(" of the loop at ")[2].startswith(f"{folder}/a.go:3: the module's ") for sentence in found)
+    assert [sentence.partition(" use the last v of the loop at ")[0][-6:] for sentence in found] == [
+        "a.go:5",
+        "a.go:6",
+    ] * says
+    assert all(
+        sentence.partition(" of the loop at ")[2].startswith(f"{folder}/a.go:3: the module's ") for sentence in found
+    )
 
 
 CONTEXT = """\
@@ -137,7 +142,9 @@ class NoLooks:
 )  # fmt: skip
 def test_a_close_that_woke_a_goroutine(change: dict[str, Any], says: bool) -> None:
     case = Made(**({"last": 4, "by": 2, "closer": 2, "what": CLOSED, "object": 5, "goid": 7, "at": (5,)} | change))
-    park = Park(case.goid, 1, case.last, 10, 20, "select", 4, case.by, tuple(At(address, "for a value") for address in case.at))
+    park = Park(
+        case.goid, 1, case.last, 10, 20, "select", 4, case.by, tuple(At(address, "for a value") for address in case.at)
+    )
     uses = {5: [], 6: [], case.object: [ObjectUse(case.object, case.closer, case.what, 4, 1, 4, 4, 15, 15)]}
     stack = Stack((line_of(0, "runtime.selectgo", of=OF_GO), line_of(0, "context.wait"), line_of(3, "main.look")), None)
     lines = Made(uses=uses, parks={case.goid: [park]}, stacks={4: stack})
@@ -194,7 +201,9 @@ def test_the_sentences_about_a_timeout(change: dict[str, Any], says: list[str], 
     recording = Made(
         step=lambda step: Made(argument=arguments.__getitem__), lines=Made(of=lambda step: None), rows=None
     )
-    index = Made(recording=recording, under_its_deadline=lambda letter: before, is_listening=lambda letter: case.listens)
+    index = Made(
+        recording=recording, under_its_deadline=lambda letter: before, is_listening=lambda letter: case.listens
+    )
     found = failed_calls.of_timeout(cast(Any, index), call, "It ended")
     assert found.says == [ENDED, *says]
     assert found.looks == [f"goto {case.cause}", "history rd 3"] and found.steps == [8, case.cause]

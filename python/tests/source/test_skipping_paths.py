@@ -7,11 +7,11 @@ from pathlib import Path
 import pytest
 
 from netrev.findings.causes import first_words
-from netrev.findings.locks.skipped_done import rounds_of, paths_sentence
+from netrev.findings.locks.skipped_done import paths_sentence, rounds_of
 from netrev.findings.pools.leaking_paths import pattern_of
 from netrev.findings.pools.stopped_timers import paths_past_reset
 from netrev.findings.source.functions import is_last_line
-from netrev.findings.source.skipped_paths import skipped_paths, paths_text
+from netrev.findings.source.skipping_paths import paths_text, skipped_paths
 from netrev.findings.streams.flushes import paths_around_flush, paths_without_answer
 from netrev.findings.streams.unfinished_replies import loops_of
 from netrev.recording.goroutines import DONE, TOOK

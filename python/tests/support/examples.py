@@ -2,7 +2,7 @@
 
 import re
 from pathlib import Path
-from typing import NamedTuple, Optional
+from typing import NamedTuple
 
 EXAMPLES = Path(__file__).resolve().parents[3] / "examples"
 LIST = EXAMPLES / "README.md"
@@ -14,8 +14,8 @@ class Example(NamedTuple):
     """A row of the list."""
 
     name: str  # the path in the folder, without the ending
-    suspect: Optional[str]  # the rule of the first suspect
-    refused_at: Optional[int]  # the step that netrev refuses
+    suspect: str | None  # the rule of the first suspect
+    refused_at: int | None  # the step that netrev refuses
 
     @property
     def path(self) -> Path:

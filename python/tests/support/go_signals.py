@@ -7,8 +7,8 @@ import signal
 import stat
 import subprocess
 import time
+from collections.abc import Callable
 from contextlib import ExitStack
-from typing import Callable
 
 import pytest
 

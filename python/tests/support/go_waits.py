@@ -205,11 +205,12 @@ class Waits(Tool):
         (shared,) = {park.objects[0].object for park in found["readLocks"]}
         (read,) = {park.objects[0].object for park in found["pends"]}
         functions = {
-            number: sorted((holder.how, self.function_of(holder.stack)) for holder in rows) for number, rows in held.items()
+            number: sorted((holder.how, self.function_of(holder.stack)) for holder in rows)
+            for number, rows in held.items()
         }
         readers = [(where.READ, "reads"), (where.READ, "reads")]
         assert functions == {at: [("", "main")], shared: [("", "main")], read: [("", "pends"), *readers]}
-        main = {holder.goid for rows in held.values() for holder in rows if self.function_of(one.stack) != "pends"}
+        main = {holder.goid for rows in held.values() for holder in rows if self.function_of(holder.stack) != "pends"}
         assert main == {maker.goid for maker in self.lines.made.values() if self.function_of(maker.stack) == "makes"}
         assert found["pends"][0].goid in {holder.goid for holder in held[read]}
 

@@ -4,8 +4,9 @@ must be the same as without the event, or a part of that output. `tests.session.
 
 import io
 import json
+from collections.abc import Callable, Iterator, Sequence
 from pathlib import Path
-from typing import Any, Callable, Generic, Iterator, NamedTuple, Optional, Sequence, TypeVar
+from typing import Any, Generic, NamedTuple, TypeVar
 
 import pytest
 
@@ -42,7 +43,7 @@ class Weather(Generic[Of]):
 
     def __init__(self, interrupts: Interrupts):
         self.interrupts = interrupts
-        self.left: Optional[int] = None
+        self.left: int | None = None
         self.count = 0
         self.action: Action[Of] = nothing
 

@@ -1,8 +1,8 @@
 """A model of netrev in the test's process, with events."""
 
 from collections import deque
+from collections.abc import Callable
 from pathlib import Path
-from typing import Callable, Optional
 
 from netrev.connection.netrev import Netrev
 from netrev.machine.debugger import DebuggedRecording
@@ -48,10 +48,10 @@ class Modelled(Netrev):
         for line in text.split(b"\n")[:-1]:
             self._said.extend(self._session.answer(line) or ())
 
-    def _next(self, line: str) -> Optional[str]:
+    def _next(self, line: str) -> str | None:
         self._happens(self)
         return None if self.has_ended else self._said.popleft()
 
-    def close(self) -> Optional[int]:
+    def close(self) -> int | None:
         self.has_ended = True
         return None

@@ -1,7 +1,8 @@
 """Stubs for objects and for functions that fail."""
 
+from collections.abc import Callable
 from types import SimpleNamespace
-from typing import Any, Callable, NoReturn
+from typing import Any, NoReturn
 
 
 def stub(**attributes: object) -> Any:

@@ -6,8 +6,9 @@ import json
 import re
 import socket
 import time
+from collections.abc import Callable
 from contextlib import suppress
-from typing import Any, Callable, NamedTuple
+from typing import Any, NamedTuple
 
 PATIENCE = 30  # seconds
 LOOPBACK = "127.0.0.1"

@@ -3,7 +3,7 @@
 import io
 from collections import deque
 from types import SimpleNamespace as Made
-from typing import Any, Optional, cast
+from typing import Any, cast
 
 import pytest
 
@@ -53,7 +53,7 @@ def test_goroutines_that_are_not_at_rest() -> None:
         (str(9 | 1 << 23 | 6), 1), ("absent", None),
     ],
 )  # fmt: skip
-def test_closed_sockets_with_references_left(word: str, left: Optional[int]) -> None:
+def test_closed_sockets_with_references_left(word: str, left: int | None) -> None:
     assert never_closed({"lock 3": word, "gor 3": "9"}) == ({} if left is None else {3: left})
 
 
@@ -123,7 +123,7 @@ def test_display_adds_a_cell_once_and_shows_all(typed: str, shown: list[str]) ->
 
 
 @pytest.mark.parametrize("maker, number", [(None, NETWORK), (0, 1), (4, 5)])
-def test_the_number_of_a_thread(maker: Optional[int], number: int) -> None:
+def test_the_number_of_a_thread(maker: int | None, number: int) -> None:
     assert thread_of(maker) == number
 
 
@@ -139,7 +139,7 @@ def test_why_a_move_of_an_editor_stops(
     lines: list[int],
     breaks: bool,
     wrong: list[str],
-    target: Optional[int],
+    target: int | None,
     reason: str,
     monkeypatch: pytest.MonkeyPatch,
 ) -> None:
@@ -226,9 +226,9 @@ def test_what_ended_a_wait(
     kind: str,
     answer: tuple[Any, ...],
     sort: OperationType,
-    event: Optional[int],
+    event: int | None,
     is_brief: bool,
-    cause: Optional[int],
+    cause: int | None,
     ends_unread: bool,
 ) -> None:
     script = GoroutineScript(cast(Any, None), {}, {(8, "r"): event} if event else {})
@@ -321,7 +321,7 @@ def test_words_that_are_no_target(words: str) -> None:
 @pytest.mark.parametrize(
     "closer, is_told", [(None, False), (By(7, 2), True), (By(5, 1), False), (By(5, 2), True), (By(7, 1), True)]
 )
-def test_a_held_reference_of_a_socket_that_another_step_closed(closer: Optional[By], is_told: bool) -> None:
+def test_a_held_reference_of_a_socket_that_another_step_closed(closer: By | None, is_told: bool) -> None:
     notes = Made(closer={3: closer} if closer else {}, is_closed=lambda s: True, now={"gor 1": "idle", "lock 3": "9"})
     run = Made(notes=notes, facts=Made(held_references={}), end=9)
     found = KeptReference(3, Hold(1, 5, "increfclose", ""), False, "", "").suspect(
@@ -414,7 +414,7 @@ def test_a_session_without_a_file_has_no_recording() -> None:
     ],
 )  # fmt: skip
 def test_bytes_that_come_or_go_as_there_is_room(
-    kind: str, value: Any, held: int, peer_closed: bool, is_made: Optional[bool]
+    kind: str, value: Any, held: int, peer_closed: bool, is_made: bool | None
 ) -> None:
     environment = Environment(cast(Any, None))
     buffers = (b"x" * held, b"") if kind == "arrive" else (b"", b"x" * held)
@@ -434,7 +434,9 @@ def test_bytes_that_come_or_go_as_there_is_room(
     ],
 )  # fmt: skip
 def test_when_what_came_is_due(arrivals: list[int], every: list[int], in_vain: list[int], due: int) -> None:
-    events = [Made(number=number, arguments=(0, 1, "r")) for number in arrivals] + [Made(number=9, arguments=(0, 1, "w"))]
+    events = [Made(number=number, arguments=(0, 1, "r")) for number in arrivals] + [
+        Made(number=9, arguments=(0, 1, "w"))
+    ]
     item = Made(due=20, event=Made(number=10, kind="arrive"))
     found = scripts._due(cast(Any, item), cast(Any, events), cast(Any, Made(all=every, in_vain=in_vain)))
     assert found == (20 if due == 20 else due - scripts.JUST_BEFORE)

@@ -5,9 +5,9 @@ from typing import Any, NamedTuple
 
 import pytest
 
-from netrev.findings.suspects.suspect import HANGS, STILL_THERE, TIMED_OUT, Suspect, Weight
 from netrev.findings.suspects.ranking import suspects_of
 from netrev.findings.suspects.rules_of_calls.left_open import SINCE
+from netrev.findings.suspects.suspect import HANGS, STILL_THERE, TIMED_OUT, Suspect, Weight
 from netrev.run.changes import changes_of
 from tests.failed_calls.test_causes import (
     CLOSES,
@@ -320,7 +320,9 @@ def test_a_suspect_says_where_to_look(rule: str) -> None:
     (suspect,) = suspects_of(recording).suspects
     evidence = [f"{position} {cell} = {value}" for position, cell, value in suspect.evidence]
     assert WHOLE[rule] == (suspect.step, suspect.weight, suspect.subject[1:], evidence, suspect.looks, suspect.steps)
-    assert all(changes_of(recording).value(cell, at) == value for at, cell, value in suspect.evidence if value is not None)
+    assert all(
+        changes_of(recording).value(cell, at) == value for at, cell, value in suspect.evidence if value is not None
+    )
 
 
 # ---- the rules of calls

@@ -2,15 +2,15 @@
 the same without the list. The list comes from the naive implementation (netrev/model/suspects.py)."""
 
 import random
+from collections.abc import Iterable
 from pathlib import Path
-from typing import Iterable, Optional, Union
 
 import pytest
 
 from dev.fuzz.generators.injections import Bug, Traffic
-from netrev.findings.suspects.suspect import Suspect
-from netrev.findings.suspects.ranking import suspects_of
 from netrev.findings.suspects.computed_facts import by_the_notes
+from netrev.findings.suspects.ranking import suspects_of
+from netrev.findings.suspects.suspect import Suspect
 from netrev.machine.observer import Observer
 from netrev.model.suspects import HUNTS, suspects
 from netrev.recording.notes import By
@@ -43,7 +43,7 @@ def netrev(tmp_path: Path) -> Path:
     return tmp_path / "netrev"
 
 
-def list_of(netrev: Path, script: str, interrupts: Optional[Interrupts] = None) -> SuspectList:
+def list_of(netrev: Path, script: str, interrupts: Interrupts | None = None) -> SuspectList:
     """The list that this shell script prints."""
     netrev.write_text(f"#!/bin/sh\n{script}\n")
     netrev.chmod(0o755)
@@ -153,7 +153,10 @@ def found(recording: Recording, is_listed: bool = True) -> list[Suspect]:
 
 def told(suspects: list[Suspect]) -> list[tuple[object, ...]]:
     """The text of suspects, without netrev's lines."""
-    return [(suspect.weight, suspect.sentence(), suspect.looks, suspect.steps, suspect.evidence, *suspect.subject) for suspect in suspects]
+    return [
+        (suspect.weight, suspect.sentence(), suspect.looks, suspect.steps, suspect.evidence, *suspect.subject)
+        for suspect in suspects
+    ]
 
 
 SHUT: Steps = [["incref", 1, 0], ["increfclose", 0, 0], ["evict", 0, 0], ["decref", 0, 0]]
@@ -272,14 +275,16 @@ def test_bytes_that_came_after_the_event_have_none_of_their_own() -> None:
     assert [suspect.rule for suspect in found(recording_of(steps))] == ["no event", "lost wake-up"]
 
 
-@pytest.mark.parametrize("example", [suspect for suspect in ALL if suspect.name not in REFUSED], ids=lambda suspect: suspect.name)
+@pytest.mark.parametrize(
+    "example", [suspect for suspect in ALL if suspect.name not in REFUSED], ids=lambda suspect: suspect.name
+)
 def test_examples_have_the_same_suspects(example: "object") -> None:
     recording = Recording.read(str(example.path))  # type: ignore[attr-defined]
     assert told(found(recording)) == told(found(recording, is_listed=False))
 
 
 @pytest.mark.parametrize("bug", [None, *Bug], ids=lambda bug: bug.value if bug else "nothing")
-def test_planted_bugs_have_the_same_suspects(bug: Optional[Bug]) -> None:
+def test_planted_bugs_have_the_same_suspects(bug: Bug | None) -> None:
     for seed in (100, 101):
         recording = Recording(Traffic(seed, bug, 1_000).run().text())
         assert told(found(recording)) == told(found(recording, is_listed=False))
@@ -301,7 +306,7 @@ def test_random_recordings_have_the_same_facts_by_the_notes() -> None:
     assert min(lost, passed, ended, back) > 10
 
 
-def without_lines(facts: Iterable[Union[LostWakeUp, OfDeadline]]) -> list[str]:
+def without_lines(facts: Iterable[LostWakeUp | OfDeadline]) -> list[str]:
     """Facts without netrev's lines, sorted."""
     return sorted(repr(suspect._replace(line="")) for suspect in facts)
 

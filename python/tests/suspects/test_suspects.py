@@ -8,10 +8,10 @@ from typing import Any, NamedTuple
 import pytest
 
 from dev.fuzz.generators.injections import Bug, BugCount, counted
-from netrev.findings.suspects.suspect import Suspect
-from netrev.findings.suspects.rule_loader import RULES, RULES_OF_CALLS
 from netrev.findings.suspects.ranking import suspects_of
+from netrev.findings.suspects.rule_loader import RULES, RULES_OF_CALLS
 from netrev.findings.suspects.run import Run
+from netrev.findings.suspects.suspect import Suspect
 from netrev.machine.machine import World
 from netrev.machine.steps import apply
 from netrev.recording.recording import Recording

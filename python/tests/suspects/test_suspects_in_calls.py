@@ -2,7 +2,7 @@
 a lock that no goroutine gives up is a suspect. A listener's wait in Go's own Accept isn't a lost wake-up."""
 
 import json
-from typing import Any, Optional
+from typing import Any
 
 from netrev.findings.suspects.ranking import suspects_of
 from netrev.recording.where import SourceLines
@@ -17,7 +17,7 @@ OTHERS: Steps = [["increfclose", 1, 0]]
 POLL = "internal/poll."
 
 
-def found(steps: Steps, functions: Optional[list[str]], others: str = "main.main") -> list[object]:
+def found(steps: Steps, functions: list[str] | None, others: str = "main.main") -> list[object]:
     """The rules that find suspects if the steps of goroutine 1 come from these functions of internal/poll, one after another; without
     functions, no lines are known."""
     recording = recording_of(OPEN + steps + WHILE)

@@ -21,7 +21,11 @@ SEEDS, STEPS = range(12), 150
 def shown(world: World) -> dict[str, str]:
     """The values of all cells and queues of a state."""
     cells = {name: str(value(world, name)) for name in CELLS_OF_ALL}
-    for shows, objects in ((SHOWS_GOROUTINE, world.goroutines), (SHOWS_SOCKET, world.sockets), (SHOWS_DESC, world.descs)):
+    for shows, objects in (
+        (SHOWS_GOROUTINE, world.goroutines),
+        (SHOWS_SOCKET, world.sockets),
+        (SHOWS_DESC, world.descs),
+    ):
         cells |= {f"{name} {at}": str(value(world, name, at)) for at in range(len(objects)) for name in shows}
     return cells | {f"{name} {at}": dumped(world, name, at) for at in range(len(world.sockets)) for name in QUEUES}
 

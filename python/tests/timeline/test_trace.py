@@ -4,10 +4,11 @@ to another; statuses equal the model's."""
 import gzip
 import json
 import random
+from collections.abc import Sequence
 from functools import lru_cache
 from itertools import chain
 from pathlib import Path
-from typing import Any, Sequence
+from typing import Any
 
 import pytest
 

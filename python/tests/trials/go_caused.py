@@ -19,10 +19,10 @@ from netrev_go.go_command.line_reader import line_reader
 from netrev_go.go_command.toolchain import Go, find_go
 from netrev_go.log.lines import SourceRoots, lines_of
 from netrev_go.log.logfile import read_log
+from netrev_go.release_check import ready
 from netrev_go.steps.conversion import everybody_of, program_of
 from netrev_go.steps.recording_builder import make, write
 from netrev_go.steps.where import write_where
-from netrev_go.release_check import ready
 
 SOURCE, OVERSIGHTS, ROOTS, TURNS, GONE, SKIPS, JOINS, SIZES, SOURCES, HANDS, CHAINS = (
     SAMPLES / name / "main.go"
@@ -100,7 +100,16 @@ def recorded(go: Go, program: pathlib.Path, words: list[str], name: pathlib.Path
     write(recording, name)
     more = [{"bytes": recording.bytes}] if recording.bytes else []
     everybody = everybody_of(recording, recording.everybody, calls)
-    write_where(name.with_suffix(".where"), recording.stacks, calls, recording.orders, recording.beside, more, recording.times, everybody)
+    write_where(
+        name.with_suffix(".where"),
+        recording.stacks,
+        calls,
+        recording.orders,
+        recording.beside,
+        more,
+        recording.times,
+        everybody,
+    )
     return run.returncode
 
 

@@ -22,9 +22,9 @@ import subprocess
 import sys
 import tempfile
 import time
+from collections.abc import Iterator
 from contextlib import contextmanager
 from dataclasses import dataclass
-from typing import Iterator
 
 from dev.recorder.suites import DEBIAN, ROOT, SAMPLES
 from netrev_go.go_command.running import places

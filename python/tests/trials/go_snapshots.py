@@ -17,10 +17,10 @@ import sys
 import tempfile
 import time
 from collections import Counter
+from collections.abc import Iterator
 from contextlib import contextmanager, suppress
 from dataclasses import dataclass, field
 from pathlib import Path
-from typing import Iterator
 
 from netrev.system.program_path import netrev_program
 from netrev_go.go_command.running import places
@@ -28,7 +28,14 @@ from netrev_go.go_command.toolchain import Go, overlay, quiet_go
 from netrev_go.log.logfile import NotALogError, copy_of, log_of
 from netrev_go.steps.analysis import check
 from netrev_go.steps.compare import by_the_model, differing
-from netrev_go.steps.recording_builder import NewRecording, NothingRecordedError, UnconvertibleError, make, write, write_words
+from netrev_go.steps.recording_builder import (
+    NewRecording,
+    NothingRecordedError,
+    UnconvertibleError,
+    make,
+    write,
+    write_words,
+)
 
 from .go_untouched import go_of
 

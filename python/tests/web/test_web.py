@@ -13,8 +13,8 @@ from contextlib import ExitStack
 import pytest
 
 from nrdb.web.document import document
-from nrdb.web.requests import Gate
 from nrdb.web.page_server import Server, UnavailableError, listening
+from nrdb.web.requests import Gate
 from nrdb.web.streams import Streams
 from tests.support.stubs import raising
 from tests.support.web_client import LOOPBACK, Address, Listener

@@ -3,10 +3,11 @@ when it is back."""
 
 import json
 import sys
+from collections.abc import Callable
 from concurrent.futures import Future
 from contextlib import ExitStack
 from pathlib import Path
-from typing import Any, Callable, Optional
+from typing import Any
 
 import pytest
 
@@ -19,10 +20,10 @@ from netrev.session.session import Session
 from netrev.system.interrupts import Interrupts
 from netrev.timeline.page_contents import MOST, STAGES
 from nrdb.prompt.answers import ANSWERS
+from nrdb.web.page_server import UnavailableError
+from nrdb.web.page_session import MOST_WAITING, Running
 from nrdb.web.painter import MOST_WAITING as MOST_PICTURES
 from nrdb.web.painter import Painter
-from nrdb.web.page_session import MOST_WAITING, Running
-from nrdb.web.page_server import UnavailableError
 from nrdb.web.shared_session import OutputSender, Shared
 from tests.support.model_sessions import Modelled, changes_at, recording_at
 
@@ -219,7 +220,7 @@ def test_netrev_is_gone(web: Page) -> None:
 
 
 def test_a_walk_is_stopped_and_the_session_goes_on(monkeypatch: pytest.MonkeyPatch, web: Page) -> None:
-    def stopped(_: Optional[int]) -> None:
+    def stopped(_: int | None) -> None:
         web.interrupts.press()  # Ctrl-C in nrdb's terminal
         web.interrupts.check()
 

@@ -4,16 +4,16 @@ server."""
 import socket
 import threading
 import time
+from collections.abc import Callable
 from concurrent.futures import ThreadPoolExecutor
 from contextlib import ExitStack
 from pathlib import Path
-from typing import Callable
 
 import pytest
 
 from nrdb.web.document import document
-from nrdb.web.requests import Gate
 from nrdb.web.page_server import MOST_CONNECTIONS, Server, listening
+from nrdb.web.requests import Gate
 from nrdb.web.streams import MOST_STREAMS, Streams
 from tests.support.web_client import Address, Listener, rest_of
 

@@ -6,11 +6,12 @@ runs each bug with these seeds, and prints the table.
 """
 
 import sys
+from collections.abc import Callable
 from enum import Enum
-from typing import Any, Callable, NamedTuple, Optional
+from typing import Any, NamedTuple
 
-from netrev.findings.suspects.suspect import Suspect
 from netrev.findings.suspects.ranking import suspects_of
+from netrev.findings.suspects.suspect import Suspect
 from netrev.recording.recording import Recording
 from netrev.text.contents import Limits
 
@@ -60,8 +61,8 @@ class Planted(NamedTuple):
     """The place of a planted bug: its goroutine, socket and descriptor, if it has them."""
 
     socket: int
-    goroutine: Optional[int] = None
-    descriptor: Optional[int] = None
+    goroutine: int | None = None
+    descriptor: int | None = None
 
     def is_of(self, suspect: Suspect) -> bool:
         """Whether a suspect is about the planted bug."""
@@ -72,7 +73,7 @@ class Planted(NamedTuple):
 class Traffic(LittleProgram):
     """Connections with goroutines that read, write, control and close them."""
 
-    def __init__(self, seed: int, bug: Optional[Bug], length: int = 3_000):
+    def __init__(self, seed: int, bug: Bug | None, length: int = 3_000):
         super().__init__(seed, LIMITS)
         self.bug, self.length = bug, length
         self.begins = length * (0.3 + 0.4 * self.dice.random())
@@ -86,7 +87,7 @@ class Traffic(LittleProgram):
         """Whether that bug should be planted now. Each bug is planted once."""
         return self.bug is bug and not self.planted and len(self.steps) > self.begins
 
-    def plant(self, socket: int, goroutine: Optional[int] = None, descriptor: Optional[int] = None) -> None:
+    def plant(self, socket: int, goroutine: int | None = None, descriptor: int | None = None) -> None:
         self.planted.append(Planted(socket, goroutine, descriptor))
 
     def run(self) -> "Traffic":
@@ -350,7 +351,7 @@ def judged(traffic: Traffic) -> BugCount:
     return BugCount(int(traffic.symptom()), int(right[:1] == [True]), int(any(right)), right.count(False))
 
 
-def counted(bug: Optional[Bug], seeds: range) -> BugCount:
+def counted(bug: Bug | None, seeds: range) -> BugCount:
     """The counts of a bug over these seeds: for recordings in which it is visible, or for recordings without a bug."""
     total = BugCount()
     for seed in seeds:

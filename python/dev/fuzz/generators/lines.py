@@ -1,7 +1,7 @@
 """Random scripts of command lines: mostly good lines, in all possible spellings, and some bad lines."""
 
 import random
-from typing import Sequence
+from collections.abc import Sequence
 
 from netrev.machine.cells import CELLS_OF_ALL, CELLS_OF_ONE, SHOWS_DESC, SHOWS_SOCKET
 from netrev.text.contents import Limits, Step

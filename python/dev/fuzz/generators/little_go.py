@@ -4,7 +4,8 @@ the goroutine."""
 
 import json
 import random
-from typing import Any, Callable, Generator
+from collections.abc import Callable, Generator
+from typing import Any
 
 from netrev.machine.machine import StepRefusedError, World
 from netrev.machine.steps import apply

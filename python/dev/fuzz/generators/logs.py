@@ -3,7 +3,8 @@ point, in the form of `netrev_go.log.points.Point`."""
 
 import json
 import struct
-from typing import Iterable, NamedTuple, Optional, Sequence
+from collections.abc import Iterable, Sequence
+from typing import NamedTuple
 
 from netrev_go.log.logfile import HEADER_BYTES, HOLDER_BYTES, HOLDER_CALL, MAGIC
 from netrev_go.log.points import Log, Point, PointStack
@@ -26,11 +27,11 @@ class HolderRow(NamedTuple):
 
 def binary(
     points: Iterable[Point],
-    stacks: Optional[dict[int, PointStack]] = None,
+    stacks: dict[int, PointStack] | None = None,
     begin: int = 0,
     room: int = 0,
-    passed: Optional[int] = None,
-    holders: Optional[Sequence[HolderRow]] = None,
+    passed: int | None = None,
+    holders: Sequence[HolderRow] | None = None,
     holders_lost: int = 0,
     is_sparse: bool = False,
 ) -> bytes:

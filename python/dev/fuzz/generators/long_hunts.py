@@ -12,7 +12,6 @@ connection that was meant to stay alive.
 
 import sys
 from pathlib import Path
-from typing import Optional, Type
 
 from netrev.text.contents import Limits
 
@@ -32,7 +31,7 @@ class Hunt(LittleProgram):
         self.length, self.has_bug = length, has_bug
         self.live: set[int] = set()
         self.connection_count = 0
-        self.planted: Optional[tuple[int, int]] = None  # the goroutine and the socket with the bug
+        self.planted: tuple[int, int] | None = None  # the goroutine and the socket with the bug
 
     def run(self) -> "Hunt":
         """Adds steps until the recording has the requested length."""
@@ -202,7 +201,7 @@ class Refused(Hunt):
             self.drain(s, held)
 
 
-HUNTS: dict[str, Type[Hunt]] = {"keeper": Keeper, "refused": Refused}
+HUNTS: dict[str, type[Hunt]] = {"keeper": Keeper, "refused": Refused}
 
 
 def hunt_of(name: str, length: int, has_bug: bool = True) -> Hunt:

@@ -392,7 +392,9 @@ def wrong_by(seed: str, folder: Path, netrev: str) -> str:
         path = folder / "made.jsonl"
         path.write_bytes(text_of(recording))
         process = subprocess.run([netrev, "check", path], stdout=subprocess.PIPE, check=False)
-        return "" if process.stdout == f"ok {len(recording.lines)} steps\n".encode() else f"netrev says {process.stdout!r}"
+        return (
+            "" if process.stdout == f"ok {len(recording.lines)} steps\n".encode() else f"netrev says {process.stdout!r}"
+        )
 
     is_asked = random.Random(f"{seed} netrev").random() < ASKED
     return wrong_with(program_of(seed), check) if is_asked else wrong_with(program_of(seed))

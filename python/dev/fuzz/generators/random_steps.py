@@ -3,14 +3,16 @@ that waits, queues, timers, evictions and full buffers occur. The frequencies di
 theme."""
 
 import random
-from typing import Iterator, Optional, Sequence
+from collections.abc import Iterator, Sequence
 
 from netrev.machine.machine import IDLE, StepRefusedError, World
 from netrev.machine.steps import apply
 from netrev.run.flow import ASLEEP, step_by_status
 from netrev.text.contents import GREATEST_TIME, Answer, Contents, Limits, Step
 from netrev.text.parser import ARGUMENTS, KINDS, RANGES
-from netrev.text.vocabulary import COUNTED_ANSWERS, KINDS as OF_NRDB, PLAIN_ANSWERS, VERSIONS
+from netrev.text.vocabulary import COUNTED_ANSWERS
+from netrev.text.vocabulary import KINDS as OF_NRDB
+from netrev.text.vocabulary import PLAIN_ANSWERS, VERSIONS
 
 OF_IDLE = {
     **{"rwlock": 6, "rwunlock": 9, "incref": 2, "decref": 2, "increfclose": 0.12, "exit": 0.1},
@@ -86,7 +88,7 @@ class Author:
     """Makes random steps for the current state of a recording."""
 
     def __init__(
-        self, dice: random.Random, wild: float = 0.03, version: Optional[int] = None, themes: Sequence[str] = THEMES
+        self, dice: random.Random, wild: float = 0.03, version: int | None = None, themes: Sequence[str] = THEMES
     ) -> None:
         self.dice = dice
         self.version = version or dice.choice(VERSIONS)
@@ -106,7 +108,7 @@ class Author:
         """A Recording whose steps all apply, with their answers in version 2, and the states at all positions."""
         worlds = [World(self.limits)]
         steps: list[Step] = []
-        answers: list[Optional[Answer]] = []
+        answers: list[Answer | None] = []
         for _ in range(3 * length):
             if len(steps) == length:
                 break
@@ -120,7 +122,7 @@ class Author:
             answers.append(answer if self.version == 2 else None)
         return Contents(self.version, self.limits, steps, answers), worlds
 
-    def any_answer(self, kind: str) -> Optional[Answer]:
+    def any_answer(self, kind: str) -> Answer | None:
         """A recorded answer for a step that doesn't apply; netrev never compares it."""
         return random_answer(self.dice, kind, ("done",)) if self.version == 2 else None
 
@@ -132,7 +134,7 @@ class Author:
                 having.setdefault(feature, []).append(position)
         return self.dice.choice(having[self.dice.choice(sorted(having))])
 
-    def refused_step(self, world: World) -> Optional[Step]:
+    def refused_step(self, world: World) -> Step | None:
         """A step that doesn't apply, or None if none is found. Each reason among the candidates has the same chance,
         and so has each kind with that reason."""
         found: dict[int, dict[str, Step]] = {}

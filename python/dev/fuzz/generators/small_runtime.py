@@ -6,7 +6,7 @@ from __future__ import annotations
 
 from collections.abc import Generator
 from dataclasses import dataclass, field
-from typing import Any, Optional
+from typing import Any
 
 from netrev_go.log.points import Point, PointKind
 
@@ -69,7 +69,7 @@ class Descriptor:
     word: int = 0
     counts: dict[str, int] = field(default_factory=lambda: {"r": 0, "w": 0})
     queues: dict[str, list[int]] = field(default_factory=lambda: {"r": [], "w": []})
-    pd: Optional[PollDescriptor] = None
+    pd: PollDescriptor | None = None
     tag: int = 0
     input: int = 0
     output: int = 0

@@ -5,8 +5,9 @@ signals are dropped."""
 
 import signal
 import threading
+from collections.abc import Callable, Iterator
 from contextlib import contextmanager
-from typing import Callable, Iterator, TypeVar
+from typing import TypeVar
 
 CTRL_C = {signal.SIGINT}
 MEANWHILE = "netrev is stopped"  # the name of threads that may send Ctrl-C

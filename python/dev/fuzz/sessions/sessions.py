@@ -1,8 +1,8 @@
 """A session of nrdb in this process, with a netrev process of its own."""
 
+from collections.abc import Iterator
 from contextlib import contextmanager
 from pathlib import Path
-from typing import Iterator
 
 from netrev.connection.arriving_changes import ArrivingChanges
 from netrev.connection.netrev import Own

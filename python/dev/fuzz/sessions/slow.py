@@ -3,7 +3,7 @@
 import signal
 import threading
 import time
-from typing import Callable, Optional
+from collections.abc import Callable
 
 from netrev.connection.netrev import Own
 from netrev.system.interrupts import Interrupts
@@ -21,14 +21,14 @@ class Slow(Own):
         super().__init__(program, path, interrupts)
         self._happens = happens
         self._waits = False  # whether a reply is awaited and hasn't arrived
-        self._meanwhile: Optional[threading.Thread] = None
+        self._meanwhile: threading.Thread | None = None
 
     def _send(self, text: bytes) -> None:
         self._waits = bool(text)
         self._happens(self)
         super()._send(text)
 
-    def _next(self, sent: str) -> Optional[str]:
+    def _next(self, sent: str) -> str | None:
         self._waits = not self._lines.has_one()
         self._happens(self)
         return super()._next(sent)
@@ -57,7 +57,7 @@ class Slow(Own):
         with undisturbed():
             self._process.kill()
 
-    def close(self) -> Optional[int]:
+    def close(self) -> int | None:
         with undisturbed():
             if self._meanwhile:
                 self._meanwhile.join()

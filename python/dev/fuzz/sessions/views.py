@@ -3,8 +3,9 @@ event, because it may be interrupted anywhere, and all output up to that point m
 order, and reports the first wrong event."""
 
 import re
+from collections.abc import Callable, Iterable, Mapping, Sequence
 from fnmatch import fnmatchcase
-from typing import Any, Callable, Iterable, Mapping, Optional, Sequence
+from typing import Any
 
 from netrev.machine.cells import look
 from netrev.machine.machine import World
@@ -32,7 +33,7 @@ class Judge:
         self.steps, self.worlds, self.session = steps, worlds, session
         self.position = 0
 
-    def value(self, cell: str, position: Optional[int] = None) -> str:
+    def value(self, cell: str, position: int | None = None) -> str:
         """The value of a cell as `print` shows it, at this position or another."""
         world = self.worlds[self.position if position is None else position]
         return look(world, f"print {cell}").partition(" = ")[2]
@@ -64,7 +65,7 @@ class Judge:
         self.position = self.session.state.position
         return "" if reply == right else f"{line} is answered {reply}, the model's {right}"
 
-    def found(self, way: str, cell: str, value: str) -> Optional[int]:
+    def found(self, way: str, cell: str, value: str) -> int | None:
         """The nearest position in that direction after a step that gave the cell this value."""
         ways: Iterable[int] = range(self.position + 1, len(self.worlds))
         if way == "reverse-until":

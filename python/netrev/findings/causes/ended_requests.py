@@ -1,7 +1,7 @@
 """Causes for the requests of net/http's client that ended because their contexts ended."""
 
 from collections import defaultdict
-from typing import Hashable
+from collections.abc import Hashable
 
 from netrev.findings.evidence.past_tense import in_the_past
 from netrev.findings.finding import Cause, with_others
@@ -41,4 +41,6 @@ def unserved_sentence(index: RunIndex, ended: CancelledRequest) -> list[str]:
     reads = (call for call in index.by_socket[ended.request.socket] if call.name == "Read" and call.first < step)
     read = next((candidate for candidate in reads if not 0 < candidate.last < step), None)
     need = unaccepted(index, read, step) if read else None
-    return [in_the_past(line) for line in [*need.says, *chain_sentence(index, read, need, step)]] if read and need else []
+    return (
+        [in_the_past(line) for line in [*need.says, *chain_sentence(index, read, need, step)]] if read and need else []
+    )

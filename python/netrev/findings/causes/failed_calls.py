@@ -1,23 +1,29 @@
 """The failed calls with their causes: for a timeout, the deadline; for a closed descriptor, its Close; for an end of
 stream or a broken connection, the Close of the other end."""
 
-from typing import NamedTuple, Optional
+from typing import NamedTuple
 
 from netrev.findings.datagrams.cut_datagrams import cut_sentence
 from netrev.findings.datagrams.datagrams import dropped_datagram
 from netrev.findings.datagrams.shared_sockets import shared_sentence
-from netrev.findings.evidence.read_sizes import read_sizes_of
+from netrev.findings.evidence.call_words import ENDED, duration, name_of, place_of_step, text_of_call, waits_words
 from netrev.findings.evidence.long_lines import long_line_sentence
 from netrev.findings.evidence.need import Need
 from netrev.findings.evidence.past_tense import in_the_past
+from netrev.findings.evidence.read_sizes import read_sizes_of
 from netrev.findings.evidence.responses import server_of
 from netrev.findings.evidence.sizes import are_known, moved_at, size_of
-from netrev.findings.evidence.call_words import ENDED, duration, name_of, place_of_step, text_of_call, waits_words
 from netrev.findings.finding import Cause
 from netrev.findings.hangs.chains import chain_sentence
 from netrev.findings.hangs.needs import Needs
 from netrev.findings.hangs.unmet_needs import endless_sentence, found_sentence, given_up_sentence
-from netrev.findings.http.cancellations import after_sentence, cancel_before, cancel_sentence, deferred_sentence, under_way
+from netrev.findings.http.cancellations import (
+    after_sentence,
+    cancel_before,
+    cancel_sentence,
+    deferred_sentence,
+    under_way,
+)
 from netrev.findings.http.cut_bodies import body_sentence, is_of_a_body
 from netrev.findings.http.late_answers import is_of_write_timeout
 from netrev.findings.http.requests import cancelled_requests
@@ -151,7 +157,7 @@ def of_close(index: RunIndex, call: Call, begins: str, deep: int) -> Cause:
     return Cause(call, [*says, *before.says], [call.first, call.cause], looks, 0, before.calls)
 
 
-def context_sentence(index: RunIndex, call: Call, by: Optional[Call]) -> list[str]:
+def context_sentence(index: RunIndex, call: Call, by: Call | None) -> list[str]:
     """Sentences about a descriptor that was closed because a request's context had ended or because a channel was
     closed. The sentences name the goroutine that cancelled the context or closed the channel, or the timeout that had
     passed. The sentences also say what the goroutine that served the request did."""
@@ -223,7 +229,7 @@ def part_sentence(index: RunIndex, call: Call, last: Call) -> list[str]:
     ]
 
 
-def late_write(index: RunIndex, call: Call, by: Call) -> Optional[Call]:
+def late_write(index: RunIndex, call: Call, by: Call) -> Call | None:
     """The last Write on a call's socket before the call, if the call's goroutine made that Write after `by` had closed
     the other end; else None."""
     write = index.last_use(call.socket, call.first, ("Write",))
@@ -251,7 +257,7 @@ class EarlierFailures(NamedTuple):
     calls: list[Call]
 
 
-def why(index: RunIndex, by: Optional[Call], deep: int) -> EarlierFailures:
+def why(index: RunIndex, by: Call | None, deep: int) -> EarlierFailures:
     """The failure just before a Close, with its own cause. The end of a file isn't a failure."""
     before = index.before(by) if by else None
     if before is None or deep >= DEEP or not (before.outcome.is_error or before.outcome is Outcome.EOF):

@@ -3,10 +3,10 @@ hanging goroutines wait for. If nothing failed and nothing hangs, it shows what 
 command to type next."""
 
 from collections import defaultdict
-from typing import Callable, Hashable, Union
+from collections.abc import Callable, Hashable
 
-from netrev.findings.evidence.ended_goroutines import goid_of
 from netrev.findings.evidence.call_words import is_of_go, place_in, waits_words
+from netrev.findings.evidence.ended_goroutines import goid_of
 from netrev.findings.finding import (
     CAUSE,
     NEXT,
@@ -111,7 +111,9 @@ def finding_of_dial(recording: Recording, dial: FailedDial) -> Finding:
 def topics_of(graph: WaitGraph, failed: list[Cause], hangs: list[Hang]) -> list[Topic]:
     """The topics of the first output, in order. Each hang is joined to the failed call that it explains or follows
     from."""
-    order = [Topic(None, topic) if isinstance(topic, Hang) else Topic(topic) for topic in in_order(graph, failed, hangs)]
+    order = [
+        Topic(None, topic) if isinstance(topic, Hang) else Topic(topic) for topic in in_order(graph, failed, hangs)
+    ]
     return joined(graph, order)
 
 
@@ -138,7 +140,7 @@ def topic_lines(graph: WaitGraph, topic: Topic, shown: set[int]) -> list[str]:
     return [*says, *source, *(left or [topic.because]), *(f"  {line}" for line in of_hang)]
 
 
-def in_order(graph: WaitGraph, failed: list[Cause], hangs: list[Hang]) -> list[Union[Cause, Hang]]:
+def in_order(graph: WaitGraph, failed: list[Cause], hangs: list[Hang]) -> list[Cause | Hang]:
     """The failures and hangs in the order in which they are shown. Failures come first. If the main goroutine hangs for
     a known reason, failures unrelated to its hang come last, because the program went on after them."""
     first = next(iter(hangs), None)
@@ -174,7 +176,11 @@ def left_by(graph: WaitGraph, call: Call) -> list[str]:
     name, index = Name(call.goroutine), run_of(graph.recording)
     left = next((waiter for waiter in graph.waiters.values() if graph.needs[waiter.name].gone == name), None)
     ended = ended_after(index, call, graph.position)
-    later = [later_call for later_call in index.by_goroutine[call.goroutine] if later_call.first > call.last and later_call.name != CLOSE]
+    later = [
+        later_call
+        for later_call in index.by_goroutine[call.goroutine]
+        if later_call.first > call.last and later_call.name != CLOSE
+    ]
     if left is None or not left.wait or ended is None or later:
         return []
     at, goid = left.wait.objects[0], goid_of(graph.recording, name)
@@ -299,7 +305,9 @@ def hang_lines(graph: WaitGraph, hang: Hang, shown: set[int]) -> list[str]:
     line where a goroutine stopped although it could have gone on; a piece that was shown before is left out."""
     stopped = 0 if hang.is_deadlock else hang.needs[0].stopped
     source = (
-        text_after(graph.recording, stopped) if not any(alike(graph.recording, stopped, other) for other in shown) else []
+        text_after(graph.recording, stopped)
+        if not any(alike(graph.recording, stopped, other) for other in shown)
+        else []
     )
     shown.add(stopped)
     return [*hang_sentences(graph, hang), *source, *tree_lines(graph, hang)]

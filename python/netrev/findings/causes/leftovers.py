@@ -2,12 +2,13 @@
 their connection was closed, early ends of streams, sockets left open, and writes between two writes of another
 goroutine. None of these is a fault by itself, so each text begins with `Perhaps`."""
 
-from typing import Iterator, NamedTuple, Optional
+from collections.abc import Iterator
+from typing import NamedTuple
 
 from netrev.findings.datagrams.cut_datagrams import causes_of_cuts
+from netrev.findings.evidence.call_words import is_of_go, place_of_step, result_words, text_of_call, waits_words
 from netrev.findings.evidence.responses import SERVE, contains
 from netrev.findings.evidence.sizes import are_known, moved_at, size_of
-from netrev.findings.evidence.call_words import is_of_go, place_of_step, result_words, text_of_call, waits_words
 from netrev.findings.finding import Cause
 from netrev.findings.pools.given_up_waits import given_up_waits
 from netrev.findings.streams.exchanges import is_cut
@@ -21,7 +22,6 @@ from netrev.run.index import MOVING, RunIndex, run_of, went_well
 from netrev.text.plurals import counted
 
 from .failed_calls import cause_of
-
 
 FAREWELL = "crypto/tls.(*Conn).closeNotify"  # an alert that the other end needn't read
 
@@ -87,7 +87,7 @@ def never_read(index: RunIndex) -> Iterator[Cause]:
         yield Cause(last, says, [write.first, last.first, by.first], looks)
 
 
-def first_beyond(index: RunIndex, socket: int, count: int) -> Optional[Call]:
+def first_beyond(index: RunIndex, socket: int, count: int) -> Call | None:
     """The first Write with which more than `count` bytes had been written to a socket."""
     together = 0
     for call in index.by_socket[socket]:

@@ -20,4 +20,8 @@ def repeated_sentence(recording: Recording, calls: list[Call]) -> list[str]:
     breaks = [number for number in body_of(lines, head) if number > own[0].line and is_inner_break(lines, head, number)]
     file = own[0].file
     continuation = f"Goroutine {calls[0].goroutine} goes on in the loop at {file}:{head} after that"
-    return [f"{continuation}: the break at {file}:{breaks[0]} leaves a select or a switch alone." if breaks else f"{continuation}."]
+    return [
+        f"{continuation}: the break at {file}:{breaks[0]} leaves a select or a switch alone."
+        if breaks
+        else f"{continuation}."
+    ]

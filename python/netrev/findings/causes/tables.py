@@ -1,7 +1,6 @@
 """The tables of `info errors`, `info hangs` and `info requests`."""
 
 from collections import defaultdict
-from typing import Optional
 
 from netrev.connection.output import Row, Table
 from netrev.findings.evidence.call_words import is_by_go, place_in
@@ -18,7 +17,7 @@ from netrev.views.calls import call_row
 from .failed_calls import cause_of
 
 
-def errors_table(recording: Recording, position: int, most: Optional[int]) -> Table:
+def errors_table(recording: Recording, position: int, most: int | None) -> Table:
     """The calls of the whole recording that ended with a timeout, a close, a broken pipe or an event error. Calls that
     end after the position are marked. The table has at most `most` calls: the last calls up to the position, and then
     as many later calls as fit."""
@@ -71,7 +70,12 @@ def hangs_table(recording: Recording, position: int) -> Table:
 
 def rows_of(graph: WaitGraph, hang: Hang) -> list[Row]:
     """The rows of a hang: its sentences, the goroutines that wait for its goroutine, and the line to type next."""
-    root, (first, *rest), tree, looks = hang.root, hang_sentences(graph, hang), tree_lines(graph, hang), hang_queries(hang)
+    root, (first, *rest), tree, looks = (
+        hang.root,
+        hang_sentences(graph, hang),
+        tree_lines(graph, hang),
+        hang_queries(hang),
+    )
     values = {
         **root.name.values,
         "call": root.call and root.call.name,

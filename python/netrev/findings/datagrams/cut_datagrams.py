@@ -3,13 +3,14 @@ error."""
 
 import re
 from collections import defaultdict
+from collections.abc import Iterator
 from functools import lru_cache
 from operator import attrgetter
-from typing import Iterator, NamedTuple
+from typing import NamedTuple
 
+from netrev.findings.evidence.call_words import text_of_call
 from netrev.findings.evidence.read_sizes import read_sizes_of
 from netrev.findings.evidence.sizes import size_of
-from netrev.findings.evidence.call_words import text_of_call
 from netrev.findings.finding import Cause
 from netrev.findings.source.functions import found_in, text_at
 from netrev.findings.streams.flushes import paths_without_answer
@@ -20,7 +21,6 @@ from netrev.run.index import RunIndex
 from netrev.text.plurals import counted
 
 from .undelivered_datagrams import is_same, sent_at
-
 
 INTO = re.compile(r"\.Read\w*\((\w+)")
 

@@ -1,10 +1,9 @@
 """Requests sent as datagrams that perhaps got no answer. If no address shows which socket got the request, the module
 looks for the only Read on another socket that got as many bytes."""
 
-from typing import Optional
 
-from netrev.findings.evidence.read_sizes import read_sizes_of
 from netrev.findings.evidence.call_words import text_of_call
+from netrev.findings.evidence.read_sizes import read_sizes_of
 from netrev.findings.streams.exchanges import FEWEST
 from netrev.findings.streams.unaccepted_connections import is_datagram
 from netrev.recording.call import Call
@@ -68,7 +67,7 @@ def dropped_datagram(index: RunIndex, call: Call) -> list[str]:
     ]
 
 
-def reader_of(index: RunIndex, call: Call, request: Call, position: int) -> Optional[Call]:
+def reader_of(index: RunIndex, call: Call, request: Call, position: int) -> Call | None:
     """The only Read on another datagram socket since a Write; None if several Reads got data, or if the Read and the
     Write have different lengths."""
     found = [

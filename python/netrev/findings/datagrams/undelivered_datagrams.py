@@ -1,10 +1,11 @@
 """Datagrams that a connected socket never gets, because the socket is connected to an address other than their source
 address."""
 
-from typing import Iterator, NamedTuple, Optional
+from collections.abc import Iterator
+from typing import NamedTuple
 
-from netrev.findings.evidence.need import Need
 from netrev.findings.evidence.call_words import place_in, text_of_call
+from netrev.findings.evidence.need import Need
 from netrev.recording.call import Call
 from netrev.run.index import RunIndex
 
@@ -19,7 +20,7 @@ class Sent(NamedTuple):
     target: str
 
 
-def unheard(index: RunIndex, call: Call, position: int) -> Optional[Need]:
+def unheard(index: RunIndex, call: Call, position: int) -> Need | None:
     """What a Read on a connected socket needs, if a datagram came to the socket from another address; else None."""
     own, peer = index.recording.lines.addresses.get(call.socket, ("", ""))
     if not peer:

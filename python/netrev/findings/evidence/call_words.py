@@ -1,13 +1,14 @@
 """Calls and places as text for a cause."""
 
-from typing import Optional
 
 from netrev.connection.beginnings import begins_at
 from netrev.recording.call import Call, Outcome
+from netrev.recording.cell_meanings import duration as duration
 from netrev.recording.recording import Recording
 from netrev.recording.waits import ObjectWait
-from netrev.recording.where import OF_GO, OF_THE_PROGRAM, SourceCall as LineCall, Stack
-from netrev.recording.cell_meanings import duration as duration
+from netrev.recording.where import OF_GO, OF_THE_PROGRAM
+from netrev.recording.where import SourceCall as LineCall
+from netrev.recording.where import Stack
 from netrev.text.plurals import counted
 
 ENDED = {
@@ -115,7 +116,7 @@ def text_of_call(recording: Recording, call: Call) -> str:
     return f"{name_of(recording, call)}{place_of(recording, call.first)} (goroutine {call.goroutine})"
 
 
-def place_of_step(recording: Recording, step: int, goroutine: Optional[int] = None) -> str:
+def place_of_step(recording: Recording, step: int, goroutine: int | None = None) -> str:
     """The place of a step, its goroutine if given, and its number: ` at pool.go:20 in ping (goroutine 0, step 8)`. A
     step that only leads to the recording's first state has neither a place nor a goroutine."""
     if 0 < step <= begins_at(recording):

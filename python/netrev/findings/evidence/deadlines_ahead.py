@@ -2,11 +2,11 @@
 
 from collections import defaultdict
 from functools import lru_cache
-from typing import NamedTuple, Optional
+from typing import NamedTuple
 
 from netrev.recording.call import Call
-from netrev.recording.recording import Recording
 from netrev.recording.cell_meanings import duration
+from netrev.recording.recording import Recording
 from netrev.run.index import READING, RunIndex
 
 from .call_words import name_of, place_of_step
@@ -33,7 +33,7 @@ def settings_of(recording: Recording) -> dict[int, list[DeadlineSetting]]:
     return found
 
 
-def deadline_ahead(index: RunIndex, call: Call, position: int) -> Optional[DeadlineSetting]:
+def deadline_ahead(index: RunIndex, call: Call, position: int) -> DeadlineSetting | None:
     """The deadline of a call that waits at a position; None if the call has no deadline."""
     side, begin = "r" if call.name in READING else "w", index.by_socket[call.socket][0].first
     settings = (

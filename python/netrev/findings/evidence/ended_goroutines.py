@@ -2,8 +2,9 @@
 may have left its loop."""
 
 import re
+from collections.abc import Iterator
 from functools import lru_cache
-from typing import Iterator, NamedTuple, Optional
+from typing import NamedTuple
 
 from netrev.findings.source.functions import Lines, function_of, indent_of
 from netrev.recording.call import Call as OneCall
@@ -33,7 +34,7 @@ def goid_of(recording: Recording, name: Name) -> int:
 
 
 @lru_cache(maxsize=1024)
-def last_stack(index: RunIndex, name: Name) -> Optional[Stack]:
+def last_stack(index: RunIndex, name: Name) -> Stack | None:
     """The last known stack of a goroutine that isn't in a deferred function."""
     last = max(passed_by(index, name), key=lambda passage: (passage.step, passage.time), default=None)
     return last.stack if last else None
@@ -60,7 +61,7 @@ def time_of(recording: Recording, step: int) -> int:
     return times[step - 1] if 0 < step <= len(times) else 0
 
 
-def ended_where(index: RunIndex, name: Name, known: Optional[Stack] = None) -> str:
+def ended_where(index: RunIndex, name: Name, known: Stack | None = None) -> str:
     """Text for the last known place of a goroutine that ended, such as `, last known at a.go:15 in parse`, followed by
     the text of `paths_out` for its loop. The text is empty if the place is unknown, and omits the place if it is the
     known line."""

@@ -1,8 +1,9 @@
 """What goroutines did on the channels and mutexes on which other goroutines wait, from the objects of NAME.where."""
 
 from collections import defaultdict
+from collections.abc import Iterator
 from operator import attrgetter
-from typing import Iterator, NamedTuple, Optional
+from typing import NamedTuple
 
 from netrev.recording.goroutines import FOR_ROOM, FOR_VALUE, PUT, TOOK, At, ObjectUse
 from netrev.recording.recording import Recording
@@ -52,7 +53,7 @@ class Ledger:
         """The calls of the program in which goroutines have waited for a mutex. Each of these calls locks the mutex."""
         return {found[0] for wait in self._locked[number] if (found := wait.stack.own())}
 
-    def last_holder(self, number: int) -> Optional[ObjectWait]:
+    def last_holder(self, number: int) -> ObjectWait | None:
         """Of a mutex's waits, the one that ended last; its goroutine then got the mutex. None if no wait has ended."""
         ended = [wait for wait in self._locked[number] if wait.last is not None]
         last = max(ended, key=attrgetter("last", "begin"), default=None)

@@ -3,8 +3,8 @@ Go 1.22, a loop has one variable for all its iterations."""
 
 import os
 import re
+from collections.abc import Iterator
 from functools import lru_cache
-from typing import Iterator
 
 from netrev.findings.source.functions import LITERAL, Lines, begin_of_literal, indent_of, range_of, source_of
 from netrev.recording.recording import Recording

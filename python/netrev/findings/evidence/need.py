@@ -1,10 +1,9 @@
 """What a waiting goroutine needs."""
 
 from enum import IntEnum
-from typing import NamedTuple, Optional
+from typing import NamedTuple
 
 from netrev.recording.waits import Name
-
 
 GOES_FIRST = "{by} waits to lock it for writing, and goes first"  # of an RWMutex that readers hold
 
@@ -29,13 +28,13 @@ class Need(NamedTuple):
     waits for another goroutine."""
 
     says: list[str]
-    by: Optional[Name] = None
+    by: Name | None = None
     how: str = ""
     certainty: Certainty = Certainty.KNOWN
     stopped: int = 0
     more: list[str] = []
     is_odd: bool = False
-    gone: Optional[Name] = None
+    gone: Name | None = None
     ended: tuple[Name, ...] = ()
     others: tuple[Name, ...] = ()
     is_kept: bool = False

@@ -1,12 +1,10 @@
 """The number of bytes that each Read asked for. These numbers show which Reads belong to one io.ReadFull."""
 
 from functools import lru_cache
-from typing import Optional
 
 from netrev.recording.call import Call
 from netrev.recording.recording import Recording
 from netrev.run.index import RunIndex, run_of
-
 
 SYSREAD = "sysread"
 
@@ -39,11 +37,11 @@ class ReadSizes:
                     self._before[call.first] = latest[key]
                 latest[key] = call
 
-    def of(self, call: Call) -> Optional[int]:
+    def of(self, call: Call) -> int | None:
         """The number of bytes that a Read asked for; None if the Read made no system call that asks for bytes."""
         return self._sizes.get(call.first)
 
-    def before(self, call: Call) -> Optional[Call]:
+    def before(self, call: Call) -> Call | None:
         """The previous Read of the same goroutine and socket."""
         return self._before.get(call.first)
 

@@ -1,7 +1,6 @@
 """The goroutine that serves a net/http request while another goroutine waits for the response, if both are in the
 recording."""
 
-from typing import Optional
 
 from netrev.recording.call import Call
 from netrev.recording.goroutines import PUT, TOOK
@@ -9,11 +8,10 @@ from netrev.recording.waits import Name, ObjectWait
 from netrev.recording.where import Stack
 from netrev.run.index import MOVING, RunIndex, back
 
-
 WRITE_LOOP, SERVE = "net/http.(*persistConn).writeLoop", "net/http.(*conn).serve"
 
 
-def socket_of(index: RunIndex, wait: ObjectWait, position: int) -> Optional[int]:
+def socket_of(index: RunIndex, wait: ObjectWait, position: int) -> int | None:
     """The socket to which the waiter's request was written. The socket belongs to the connection whose goroutine last
     took a request from the waiter. That goroutine may have taken requests from other goroutines since."""
     lines = index.recording.lines
@@ -33,7 +31,7 @@ def socket_of(index: RunIndex, wait: ObjectWait, position: int) -> Optional[int]
     return call.socket if call else None
 
 
-def server_of(index: RunIndex, socket: int, position: int) -> Optional[Name]:
+def server_of(index: RunIndex, socket: int, position: int) -> Name | None:
     """The goroutine that serves the other end of a socket: the last goroutine that read a request there."""
     other = index.other_end(socket)
     used = back(index.by_socket.get(other, ()), position) if other is not None else iter(())

@@ -2,8 +2,9 @@
 of the program that only they passed, or that only the other goroutines passed."""
 
 from collections import Counter, defaultdict
+from collections.abc import Collection, Iterable
 from functools import cached_property, lru_cache
-from typing import Collection, Iterable, NamedTuple, Optional
+from typing import NamedTuple
 
 from netrev.findings.source.functions import text_at
 from netrev.recording.recording import Recording
@@ -76,7 +77,7 @@ def kinds_of(recording: Recording, did: Collection[int]) -> list[Kind]:
     return sorted(kinds, key=lambda kind: -len(kind.did))
 
 
-def odd_goroutines(recording: Recording, goids: list[int]) -> Optional[tuple[list[int], SourceCall]]:
+def odd_goroutines(recording: Recording, goids: list[int]) -> tuple[list[int], SourceCall] | None:
     """The goroutines in `goids` that didn't pass a line, and the line. At least half of `goids` passed it."""
     passed = lines_of(recording)
     often = Counter(line for goid in goids for line in passed.of(goid))

@@ -2,7 +2,7 @@
 the poller."""
 
 from functools import lru_cache
-from typing import NamedTuple, Optional
+from typing import NamedTuple
 
 from netrev.recording.call import Call
 from netrev.recording.recording import Recording
@@ -22,8 +22,8 @@ class Waiter(NamedTuple):
     name: Name
     since: int
     stack: Stack
-    call: Optional[Call] = None
-    wait: Optional[ObjectWait] = None
+    call: Call | None = None
+    wait: ObjectWait | None = None
 
     @property
     def is_of_go(self) -> bool:

@@ -1,8 +1,8 @@
 """Goroutines that read for other goroutines and pass on what they read. The module finds a goroutine that got bytes
 after a request and has passed nothing on since then."""
 
-from netrev.findings.evidence.waiters import Waiter
 from netrev.findings.evidence.call_words import text_of_call
+from netrev.findings.evidence.waiters import Waiter
 from netrev.recording.goroutines import PUT
 from netrev.recording.recording import Recording
 from netrev.recording.waits import Name, ObjectWait

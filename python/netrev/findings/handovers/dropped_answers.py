@@ -3,11 +3,12 @@ waits on a channel. Clients of many RPC protocols pass answers on through channe
 
 import re
 from collections import defaultdict
-from typing import Mapping, NamedTuple, Optional
+from collections.abc import Mapping
+from typing import NamedTuple
 
+from netrev.findings.evidence.call_words import text_of_call
 from netrev.findings.evidence.need import Need
 from netrev.findings.evidence.waiters import Waiter
-from netrev.findings.evidence.call_words import text_of_call
 from netrev.findings.pools.senders import PUTS, givings_of
 from netrev.findings.pools.unclosed_channels import RECEIVE
 from netrev.findings.source.functions import Lines, indent_of, range_of, source_of, text_at
@@ -16,7 +17,9 @@ from netrev.recording.call import Call
 from netrev.recording.goroutines import FOR_VALUE, PUT, TOOK
 from netrev.recording.recording import Recording
 from netrev.recording.waits import Name, ObjectWait, name_of_goid
-from netrev.recording.where import OF_THE_PROGRAM, SourceCall as LineCall, Stack
+from netrev.recording.where import OF_THE_PROGRAM
+from netrev.recording.where import SourceCall as LineCall
+from netrev.recording.where import Stack
 from netrev.run.index import MOVING, RunIndex
 from netrev.text.plurals import counted
 
@@ -41,7 +44,7 @@ def is_for_values(wait: ObjectWait) -> bool:
     return bool(wait.objects) and all(at.use == FOR_VALUE for at in wait.objects)
 
 
-def dropped_answer(index: RunIndex, wait: ObjectWait, hands: Mapping[int, list[Hand]]) -> Optional[Need]:
+def dropped_answer(index: RunIndex, wait: ObjectWait, hands: Mapping[int, list[Hand]]) -> Need | None:
     """What a waiting goroutine needs: an answer that a goroutine in `hands` (keyed by socket) read and passed to no
     other goroutine. None if unknown."""
     sockets = sockets_of_request(index, wait) if hands else set()
@@ -107,7 +110,7 @@ def by_source(recording: Recording, wait: ObjectWait, readers: Mapping[Name, Wai
     return found
 
 
-def request_of(index: RunIndex, wait: ObjectWait, socket: int) -> Optional[Call]:
+def request_of(index: RunIndex, wait: ObjectWait, socket: int) -> Call | None:
     """The last Write of a goroutine to a socket before it waits. If the waiter made no Write, the result is the first
     Write of a goroutine that got the request from the waiter."""
     calls = index.calls_of(wait.name)
@@ -116,7 +119,7 @@ def request_of(index: RunIndex, wait: ObjectWait, socket: int) -> Optional[Call]
     return own or written_for(index, wait, socket)
 
 
-def read_since(index: RunIndex, hand: Hand, request: Call) -> Optional[Call]:
+def read_since(index: RunIndex, hand: Hand, request: Call) -> Call | None:
     """The last Read, after a Write, that got bytes for a goroutine; the Read in which the goroutine waits now doesn't
     count."""
     calls = [call for call in index.by_goroutine.get(hand.call.goroutine, []) if call.socket == hand.call.socket]

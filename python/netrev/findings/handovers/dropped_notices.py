@@ -2,7 +2,6 @@
 lines of the program's source that put a value into that channel in a select with a `default`."""
 
 import re
-from typing import Optional
 
 from netrev.findings.pools.later_closes import channels_of
 from netrev.findings.pools.senders import TAKES
@@ -76,7 +75,7 @@ def is_dropping(recording: Recording, own: SourceCall, name: str, line: SourceCa
     return name == sends[1] and own.file == line.file and own.line in (within or ())
 
 
-def default_of(lines: Lines, number: int) -> Optional[int]:
+def default_of(lines: Lines, number: int) -> int | None:
     """The `default:` of the select that has this case."""
     margin = indent_of(lines[number - 1])
     for at in range(number + 1, len(lines) + 1):

@@ -1,13 +1,14 @@
 """Requests that a goroutine took from a channel and didn't answer before it took the next request, while the goroutine
 that sent the request waits on another channel."""
 
-from typing import Mapping, NamedTuple, Optional
+from collections.abc import Mapping
+from typing import NamedTuple
 
+from netrev.findings.evidence.call_words import place_in
 from netrev.findings.evidence.need import Need
 from netrev.findings.evidence.waiters import Waiter
-from netrev.findings.evidence.call_words import place_in
 from netrev.findings.pools.senders import givings_at
-from netrev.findings.pools.stopped_timers import timers_of_select, paths_past_reset
+from netrev.findings.pools.stopped_timers import paths_past_reset, timers_of_select
 from netrev.findings.source.functions import range_of, source_of
 from netrev.recording.goroutines import FOR_VALUE, PUT, TOOK, ObjectUse
 from netrev.recording.recording import Recording
@@ -27,7 +28,7 @@ class Taken(NamedTuple):
     line: int
 
 
-def dropped_request(recording: Recording, wait: ObjectWait, waiters: Mapping[Name, Waiter]) -> Optional[Need]:
+def dropped_request(recording: Recording, wait: ObjectWait, waiters: Mapping[Name, Waiter]) -> Need | None:
     """What a waiting goroutine needs: an answer to a request that another goroutine took but didn't answer. None if
     unknown."""
     if not wait.objects or any(at.use != FOR_VALUE for at in wait.objects):
@@ -47,7 +48,9 @@ def dropped_request(recording: Recording, wait: ObjectWait, waiters: Mapping[Nam
     if left := left_to_a_timer(recording, taken.taker):
         return Need([says, left], is_odd=True)
     ways, place = paths_past(recording, taken.taker.stack, taken.file, taken.line), f"{taken.file}:{taken.line}"
-    continuation = f"{paths_text(taken.file, ways)} without {place}, where it answers" if ways else f"it answers at {place}"
+    continuation = (
+        f"{paths_text(taken.file, ways)} without {place}, where it answers" if ways else f"it answers at {place}"
+    )
     return Need([says, f"Perhaps {name} left it without an answer: {continuation}."], is_odd=True)
 
 
@@ -80,7 +83,7 @@ def has_answer(recording: Recording, wait: ObjectWait, request: ObjectUse) -> bo
 
 def taker_of(
     recording: Recording, wait: ObjectWait, request: ObjectUse, waiters: Mapping[Name, Waiter]
-) -> Optional[Taken]:
+) -> Taken | None:
     """The goroutine that took a request. The result is None unless all requests were taken, and each goroutine that
     took a request has ended or waits for the next request."""
     lines, number = recording.lines, request.object

@@ -2,7 +2,7 @@
 each was in a function with a line that puts a value into the channel or takes one, and ended before that line."""
 
 import re
-from typing import Iterator, Optional
+from collections.abc import Iterator
 
 from netrev.findings.evidence.ended_goroutines import ended_where, goid_of
 from netrev.findings.evidence.need import Need
@@ -21,7 +21,7 @@ FUNCTION = re.compile(r"func (?:\([^)]*\) )?(\w+)[(\[]")
 MOST = 50  # the most goroutines to examine
 
 
-def ended_giver(index: RunIndex, wait: ObjectWait) -> Optional[Need]:
+def ended_giver(index: RunIndex, wait: ObjectWait) -> Need | None:
     """What a waiting goroutine needs: a value, or room for one. Other goroutines ended before they provided it, and
     perhaps should have. None if no such goroutine is found."""
     own, recording = wait.stack.own(), index.recording

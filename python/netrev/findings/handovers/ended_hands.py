@@ -2,13 +2,14 @@
 value. Clients of many RPC protocols pass answers on in this way, and workers of servers send their results in this
 way."""
 
+from collections.abc import Sequence
 from functools import lru_cache
-from typing import NamedTuple, Optional, Sequence
+from typing import NamedTuple
 
+from netrev.findings.evidence.call_words import ENDED, text_of_call
 from netrev.findings.evidence.ended_goroutines import ended_where, paths_out
 from netrev.findings.evidence.ledger import END
 from netrev.findings.evidence.need import Need
-from netrev.findings.evidence.call_words import ENDED, text_of_call
 from netrev.findings.pools.balances import has_ended
 from netrev.findings.pools.new_channels import channel_since
 from netrev.recording.call import Call as OneCall
@@ -29,7 +30,7 @@ class EndedHand(NamedTuple):
     line: SourceCall
 
 
-def ended_hand(index: RunIndex, wait: ObjectWait) -> Optional[Need]:
+def ended_hand(index: RunIndex, wait: ObjectWait) -> Need | None:
     """What a goroutine needs if it waits for a value, and all goroutines that provided values for its line have ended.
     The result is None if one of these goroutines hasn't ended, or if no goroutine provided values."""
     lines, own = index.recording.lines, wait.stack.own()
@@ -84,7 +85,7 @@ def sentence_of(index: RunIndex, hands: Sequence[EndedHand]) -> list[str]:
     return [says[0].upper() + says[1:], *([how] if how else [])]
 
 
-def failed_last(index: RunIndex, name: Name) -> Optional[OneCall]:
+def failed_last(index: RunIndex, name: Name) -> OneCall | None:
     """The last Read or Write of a goroutine, if it failed or reached the end of the stream."""
     moving = [call for call in index.calls_of(name) if call.name in ("Read", "Write") and call.last]
     return moving[-1] if moving and (moving[-1].outcome.is_error or moving[-1].outcome in ENDED) else None

@@ -1,8 +1,8 @@
 """Text about the goroutines that have already done what another goroutine waits for on a channel. Two functions find
 out whether a goroutine is still in a function."""
 
-from netrev.findings.evidence.ledger import GIVES
 from netrev.findings.evidence.call_words import place_in, since_begin
+from netrev.findings.evidence.ledger import GIVES
 from netrev.recording.goroutines import CLOSED, FOR_ROOM, FOR_VALUE, TOOK
 from netrev.recording.recording import Recording
 from netrev.recording.waits import ObjectWait, name_of_goid

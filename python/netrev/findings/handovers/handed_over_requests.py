@@ -3,7 +3,6 @@ goroutine that writes all requests of a connection."""
 
 from collections import defaultdict
 from functools import lru_cache
-from typing import Optional
 
 from netrev.findings.evidence.ended_goroutines import goid_of
 from netrev.findings.evidence.ledger import END
@@ -15,7 +14,7 @@ from netrev.recording.where import OF_THE_PROGRAM, Stack
 from netrev.run.index import RunIndex
 
 
-def put_before(recording: Recording, wait: ObjectWait) -> Optional[ObjectUse]:
+def put_before(recording: Recording, wait: ObjectWait) -> ObjectUse | None:
     """The last value that a goroutine put into another channel before it waited, in a function that the goroutine is
     still in."""
     objects, inside = {at.object for at in wait.objects}, functions_of(wait.stack)
@@ -51,7 +50,7 @@ def functions_of(stack: Stack) -> set[str]:
     return {call.function for call in stack.calls if call.of == OF_THE_PROGRAM}
 
 
-def written_for(index: RunIndex, wait: ObjectWait, socket: int) -> Optional[Call]:
+def written_for(index: RunIndex, wait: ObjectWait, socket: int) -> Call | None:
     """The first Write on a socket by a goroutine that had taken what the waiter put into a channel."""
     put = put_before(index.recording, wait)
     if put is None:

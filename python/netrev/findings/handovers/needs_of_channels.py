@@ -1,20 +1,20 @@
 """What a goroutine that waits on a channel needs. The need is derived from how often goroutines took and gave back
 values, from the last goroutine that did the awaited operation, and from goroutines that ended without it."""
 
+from collections.abc import Callable, Hashable, Iterable, Iterator, Mapping
 from itertools import islice
-from typing import Any, Callable, Hashable, Iterable, Iterator, Mapping, Optional, TypeVar
+from typing import Any, TypeVar
 
-
+from netrev.findings.evidence.call_words import place_in
 from netrev.findings.evidence.ended_goroutines import loop_words
 from netrev.findings.evidence.ledger import GAVE_BEFORE, GIVES, GIVES_WORDS, Ledger, Operation
 from netrev.findings.evidence.loop_variables import shared_variables
 from netrev.findings.evidence.need import Certainty, Need
 from netrev.findings.evidence.siblings import Kind, ended_words, kinds_of
 from netrev.findings.evidence.waiters import Waiter
-from netrev.findings.evidence.call_words import place_in
 from netrev.findings.locks.groups import outermost
-from netrev.findings.pools.balances import Balance, balances_of, give_back, has_ended
 from netrev.findings.pools.balance_sentences import excess_sentence, kept_sentence
+from netrev.findings.pools.balances import Balance, balances_of, give_back, has_ended
 from netrev.findings.pools.leaking_paths import gives_on_most_paths, paths_with_an_error
 from netrev.findings.pools.made_channels import is_filled_by_maker
 from netrev.findings.pools.new_channels import channel_since
@@ -38,7 +38,7 @@ DID = {PUT: "putting a value there", TOOK: "taking one there"}
 MOST_GIVEN = 50  # the most goroutines to examine for each waiter
 NOBODY = Name(-1)
 Found = TypeVar("Found")
-Rule = Callable[[Recording, ObjectWait, Iterable[tuple[Name, Stack]]], Optional[Need]]
+Rule = Callable[[Recording, ObjectWait, Iterable[tuple[Name, Stack]]], Need | None]
 
 
 class NeedsOfChannels:
@@ -80,7 +80,7 @@ class NeedsOfChannels:
 
         return self._once((wait.stack.own(), wait.objects, "besides"), find)
 
-    def of_balance(self, wait: ObjectWait) -> Optional[Need]:
+    def of_balance(self, wait: ObjectWait) -> Need | None:
         """What a goroutine needs from a channel that is used like a pool. The sentences name calls that kept a value or
         gave it back twice. `by` is a waiting goroutine that has a value. None if the channel isn't used this way."""
         at, wanted = wait.objects[0], GIVES.get(wait.objects[0].use, "")
@@ -103,7 +103,7 @@ class NeedsOfChannels:
             Certainty.LIKELY,
         )
 
-    def _of_slots(self, wait: ObjectWait) -> Optional[Need]:
+    def _of_slots(self, wait: ObjectWait) -> Need | None:
         """What a goroutine needs while it waits for a slot of a semaphore. The need names a goroutine that holds a slot."""
         key = "slots", wait.stack.own(), wait.objects
         need = self._once(
@@ -113,7 +113,7 @@ class NeedsOfChannels:
             return of_slots(self._recording, wait, self._stacks, self._waiters)
         return need
 
-    def _of_nested(self, wait: ObjectWait) -> Optional[Need]:
+    def _of_nested(self, wait: ObjectWait) -> Need | None:
         """What a goroutine needs while it waits on a channel that was filled only once. Another goroutine took a value
         and, still in the same call, waits for a second value."""
         at = wait.objects[0]
@@ -218,7 +218,7 @@ class NeedsOfChannels:
                 return Need([f"{did}; it {self._does(latest.name, stack)}.", *ended], is_odd=True)
         return ended_giver(run_of(self._recording), wait) or Need([])
 
-    def _of_the_past(self, wait: ObjectWait, operations: list[Operation], closing: Optional[Need]) -> Need:
+    def _of_the_past(self, wait: ObjectWait, operations: list[Operation], closing: Need | None) -> Need:
         """What a goroutine needs if no waiting goroutine did the awaited operation. The need says which other goroutine did it last, if any."""
         for operation in operations:
             loop = loop_words(self._recording, operation.stack) if has_ended(self._recording, operation.name) else ""
@@ -252,11 +252,11 @@ class NeedsOfChannels:
 
         return self._once(("given", at), find)
 
-    def _closing(self, wait: ObjectWait) -> Optional[Need]:
+    def _closing(self, wait: ObjectWait) -> Need | None:
         """What a goroutine needs while it waits for a channel to be closed, found from the source."""
         return self._by_source("closing", unclosed, wait)
 
-    def _by_source(self, key: str, rule: Rule, wait: ObjectWait) -> Optional[Need]:
+    def _by_source(self, key: str, rule: Rule, wait: ObjectWait) -> Need | None:
         """The result of a rule that reads the source. The result is computed once for all waits at a line. If it names
         the waiting goroutine itself, it is computed again for that wait."""
         nobody = wait._replace(name=NOBODY)

@@ -1,10 +1,9 @@
 """Goroutines that wait although only they could read what they wait for. Such a goroutine is in the function that reads
 a connection, for example because it serves the requests itself, and the connection has unread bytes."""
 
-from typing import Optional
 
-from netrev.findings.evidence.need import Need
 from netrev.findings.evidence.call_words import place_in, short, text_of_call
+from netrev.findings.evidence.need import Need
 from netrev.findings.streams.unread_bytes import unread
 from netrev.recording.waits import ObjectWait
 from netrev.recording.where import OF_THE_PROGRAM
@@ -12,7 +11,7 @@ from netrev.run.index import RunIndex
 from netrev.text.plurals import counted
 
 
-def of_own_reader(index: RunIndex, wait: ObjectWait, position: int) -> Optional[Need]:
+def of_own_reader(index: RunIndex, wait: ObjectWait, position: int) -> Need | None:
     """What a waiting goroutine needs if it is itself in the function that reads a connection. The result is None if
     other goroutines read from the connection too, or if the connection has no unread bytes."""
     inside = {call.function for call in wait.stack.calls if call.of == OF_THE_PROGRAM}

@@ -1,10 +1,10 @@
 """The chain of waits that led to a failed call, at the step at which the call failed. The call waited for a goroutine,
 which itself waited for another, and so on."""
 
+from netrev.findings.evidence.call_words import capital, place_in
 from netrev.findings.evidence.ledger import GIVES
 from netrev.findings.evidence.need import Need
 from netrev.findings.evidence.waiters import Waiter, waiters_during
-from netrev.findings.evidence.call_words import capital, place_in
 from netrev.recording.call import Call
 from netrev.recording.waits import Name
 from netrev.run.index import RunIndex

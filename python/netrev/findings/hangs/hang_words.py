@@ -2,18 +2,18 @@
 and a tree of the goroutines that wait."""
 
 from collections import defaultdict
-from typing import Sequence
+from collections.abc import Sequence
 
+from netrev.findings.evidence.call_words import capital, name_of, place_in, text_of_call, waits_words
 from netrev.findings.evidence.deadlines_ahead import deadline_ahead, setting_sentence, until_words
 from netrev.findings.evidence.need import GOES_FIRST
 from netrev.findings.evidence.waiters import Waiter
-from netrev.findings.evidence.call_words import capital, name_of, place_in, text_of_call, waits_words
 from netrev.findings.streams.gone_readers import gone_readers
 from netrev.findings.streams.unread_bytes import unread_sentence
+from netrev.recording.cell_meanings import SIDES
 from netrev.recording.goroutines import FOR_VALUE
 from netrev.recording.recording import Recording
 from netrev.recording.waits import Name, listed, of_names
-from netrev.recording.cell_meanings import SIDES
 from netrev.run.index import READING, RunIndex, run_of
 from netrev.text.plurals import counted
 

@@ -1,11 +1,12 @@
 """Hangs that explain a failed call or follow from it: hangs of the call's goroutine, of the goroutine at the other end,
 or of goroutines that wait for the call's goroutine."""
 
-from typing import Iterator, NamedTuple, Optional
+from collections.abc import Iterator
+from typing import NamedTuple
 
+from netrev.findings.evidence.call_words import name_of
 from netrev.findings.evidence.responses import server_of
 from netrev.findings.evidence.waiters import Waiter
-from netrev.findings.evidence.call_words import name_of
 from netrev.findings.finding import Cause
 from netrev.recording.call import CLOSE, Call
 from netrev.recording.waits import Name
@@ -17,8 +18,8 @@ from .wait_graph import Hang, WaitGraph, waiters_of
 class Topic(NamedTuple):
     """One topic of the output: a failed call, a hang, or both, and the sentence that joins the hang to the call."""
 
-    cause: Optional[Cause]
-    hang: Optional[Hang] = None
+    cause: Cause | None
+    hang: Hang | None = None
     because: str = ""
 
 
@@ -37,7 +38,7 @@ def joined(graph: WaitGraph, order: list[Topic]) -> list[Topic]:
     return [topic for topic in every if topic.cause or any(topic.hang is hang for hang in left)]
 
 
-def because_of(graph: WaitGraph, hang: Hang, cause: Optional[Cause]) -> str:
+def because_of(graph: WaitGraph, hang: Hang, cause: Cause | None) -> str:
     """The sentence that joins a hang to a failed call; empty if the two are unrelated, or if the reason for the hang
     isn't known."""
     # (the first sentence of a hang at a write says which goroutine doesn't read)

@@ -3,10 +3,10 @@ goroutine waits in the select. Or the select lacks a case for a closed channel; 
 case."""
 
 from operator import attrgetter
-from typing import NamedTuple, Optional
+from typing import NamedTuple
 
-from netrev.findings.evidence.responses import SERVE, contains
 from netrev.findings.evidence.call_words import place_in
+from netrev.findings.evidence.responses import SERVE, contains
 from netrev.findings.source.locks import owner
 from netrev.recording.goroutines import A_SELECT, A_WAIT_GROUP, CLOSED, FOR_VALUE, PUT, ObjectUse
 from netrev.recording.recording import Recording
@@ -34,22 +34,25 @@ def missing_case_sentence(recording: Recording, hang: Hang) -> list[str]:
     if ends is None:
         return []
     lacking = lacking_of(recording, wait, ends)
-    return [*([shutdown_sentence(shutdown)] if shutdown else []), *([lacking_sentence(recording, lacking)] if lacking else [])]
+    return [
+        *([shutdown_sentence(shutdown)] if shutdown else []),
+        *([lacking_sentence(recording, lacking)] if lacking else []),
+    ]
 
 
-def own_of(stack: Stack) -> Optional[SourceCall]:
+def own_of(stack: Stack) -> SourceCall | None:
     """The line of the program in a stack."""
     own = stack.own()
     return own[0] if own and own[0].of == OF_THE_PROGRAM else None
 
 
-def group_wait_of(branch: WaitBranch) -> Optional[ObjectWait]:
+def group_wait_of(branch: WaitBranch) -> ObjectWait | None:
     """The wait of a branch's goroutine on a WaitGroup."""
     first = branch.waiters[0].wait
     return first if first and first.kind == A_WAIT_GROUP else None
 
 
-def shutdown_of(recording: Recording, wait: ObjectWait) -> Optional[ObjectWait]:
+def shutdown_of(recording: Recording, wait: ObjectWait) -> ObjectWait | None:
     """The first wait of a Shutdown, if a goroutine serves a request of net/http. A wait that doesn't end is preferred,
     because Shutdown polls."""
     if not contains(wait.stack, SERVE):
@@ -67,7 +70,7 @@ def shutdown_sentence(shutdown: ObjectWait) -> str:
     return f"Shutdown{place_in(shutdown.stack)} ({shutdown.name}) {waits} for the ends of all requests, and cancels none of their contexts."
 
 
-def lacking_of(recording: Recording, wait: ObjectWait, ends: ObjectWait) -> Optional[Lacking]:
+def lacking_of(recording: Recording, wait: ObjectWait, ends: ObjectWait) -> Lacking | None:
     """A channel that never had a value, and that was closed by the goroutine that now waits for other goroutines to
     end. Another function of the same type, or package, has waited on that channel."""
     own, closed = own_of(wait.stack), closed_by(recording, ends.name)

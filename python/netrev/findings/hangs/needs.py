@@ -2,15 +2,14 @@
 earlier uses, or in stacks alone."""
 
 from operator import attrgetter
-from typing import Optional
 
 from netrev.findings.datagrams.cut_datagrams import cut_sentence
 from netrev.findings.datagrams.datagrams import unanswered_datagram
 from netrev.findings.datagrams.shared_sockets import shared_sentence
 from netrev.findings.datagrams.undelivered_datagrams import unheard
+from netrev.findings.evidence.call_words import place_of_step, result_words, since_begin, text_of_call, waits_words
 from netrev.findings.evidence.need import Certainty, Need
 from netrev.findings.evidence.waiters import Waiter
-from netrev.findings.evidence.call_words import place_of_step, result_words, since_begin, text_of_call, waits_words
 from netrev.findings.http.held_answers import held_back
 from netrev.findings.locks.new_readers import left_reader, thrown_away
 from netrev.findings.pools.left_sockets import left_socket
@@ -24,8 +23,8 @@ from netrev.findings.streams.unaccepted_connections import is_dialed, unaccepted
 from netrev.findings.streams.unfinished_replies import unfinished_reply
 from netrev.findings.streams.unread_bytes import unread_answers
 from netrev.recording.call import CLOSE, Call
-from netrev.recording.waits import Name, Waits, name_of_goid, waits_of
 from netrev.recording.cell_meanings import SIDES
+from netrev.recording.waits import Name, Waits, name_of_goid, waits_of
 from netrev.run.index import READING, RunIndex
 
 from .needs_elsewhere import NeedsElsewhere
@@ -142,7 +141,7 @@ class Needs:
         how = f"{{by}} {DID[wanted] if did else 'used'} the other end last"
         return Need([*says, *self._since_then(last)], Name(last.goroutine), how, Certainty.LIKELY, self._stopped(last))
 
-    def _sibling_of(self, write: Call) -> Optional[Name]:
+    def _sibling_of(self, write: Call) -> Name | None:
         """A waiting goroutine that perhaps writes the answer. A goroutine that has ended wrote an earlier answer, and
         the reader of the requests started both goroutines at the same `go` statement."""
         lines = self._recording.lines
@@ -163,7 +162,7 @@ class Needs:
         first = min(waiters, key=attrgetter("since"), default=None)
         return first.name if first else None
 
-    def _started_by(self, last: Call) -> Optional[Name]:
+    def _started_by(self, last: Call) -> Name | None:
         """The goroutine that was perhaps meant to write what a Read waits for, if nothing has been written at the other
         end. That goroutine waits elsewhere. The other end's reader started it after the last request, and now reads
         again."""
@@ -189,7 +188,7 @@ class Needs:
         first = min(waiters, key=attrgetter("since"), default=None)
         return first.name if first else None
 
-    def _relay_back(self, last: Call) -> Optional[Name]:
+    def _relay_back(self, last: Call) -> Name | None:
         """The goroutine that should perhaps write what a Read waits for, if nothing has been written at the other end.
         The goroutine of `last` reads there and writes to a second socket, so it may be half of a relay. The result is
         the other half, which waits to read from the second socket."""
@@ -206,7 +205,7 @@ class Needs:
         found = next(readers, None)
         return found.name if found else None
 
-    def _needed(self, call: Call, other: int, did: Optional[Call]) -> list[str]:
+    def _needed(self, call: Call, other: int, did: Call | None) -> list[str]:
         """Sentences about what a call needs from the other end. `did` is the last read or write at that end."""
         if call.name in READING:
             return [f"It needs bytes from its other end, socket {other}."]
@@ -214,7 +213,7 @@ class Needs:
         ended = "was never read" if not did else "is being read" if is_read else "isn't being read"
         return [f"Socket {call.socket} has no room: its other end, socket {other}, {ended}."]
 
-    def _started_for(self, opened: Call) -> Optional[Name]:
+    def _started_for(self, opened: Call) -> Name | None:
         """The goroutine that the opener of a socket started next, before it opened another socket. A server starts a
         goroutine for each connection."""
         lines, following = self._recording.lines, self._index.next_of(opened)

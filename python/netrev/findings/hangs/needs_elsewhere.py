@@ -1,14 +1,14 @@
 """What each goroutine that waits outside the poller needs, and which goroutine could give it. Such a goroutine waits
 for a mutex, a channel, a WaitGroup, a descriptor in use, or a connection of net/http."""
 
-from typing import Hashable, Iterator, Optional
+from collections.abc import Hashable, Iterator
 
+from netrev.findings.evidence.call_words import text_of_call, waits_words
 from netrev.findings.evidence.ended_goroutines import ended_where
 from netrev.findings.evidence.ledger import Ledger
 from netrev.findings.evidence.need import Certainty, Need
 from netrev.findings.evidence.responses import SERVE, contains, server_of, socket_of
 from netrev.findings.evidence.waiters import Waiter
-from netrev.findings.evidence.call_words import text_of_call, waits_words
 from netrev.findings.handovers.dropped_answers import Hand, by_socket, dropped_answer, hands_of, is_for_values
 from netrev.findings.handovers.dropped_requests import dropped_request
 from netrev.findings.handovers.ended_hands import ended_hand
@@ -27,7 +27,7 @@ from netrev.findings.pools.stopped_timers import of_timers, timers_of_select
 from netrev.findings.source.requests_without_context import contextless_sentence
 from netrev.findings.streams.unaccepted_connections import is_dialed
 from netrev.recording.goroutines import A_CONDITION, A_SELECT, A_WAIT_GROUP, MUTEXES
-from netrev.recording.waits import ALL_REQUESTS, A_CONNECTION, A_RESPONSE, LAST_USE, Name, ObjectWait, Waits
+from netrev.recording.waits import A_CONNECTION, A_RESPONSE, ALL_REQUESTS, LAST_USE, Name, ObjectWait, Waits
 from netrev.recording.where import OF_THE_PROGRAM, Stack
 from netrev.run.index import READING, RunIndex, back
 
@@ -43,7 +43,7 @@ class NeedsElsewhere:
         self._channels = NeedsOfChannels(self._recording, waits, self._ledger, waiters, dict(stacks), self._does)
         # the goroutines that pass values on to the goroutines that wait at a line
         self._hands: dict[Hashable, dict[int, list[Hand]]] = {}
-        self._later: dict[Hashable, Optional[Need]] = {}  # what ends the selects of each line
+        self._later: dict[Hashable, Need | None] = {}  # what ends the selects of each line
         self._conditions: dict[Hashable, list[str]] = {}  # the sentences about waits, keyed by their lines and objects
         self._mutexes = NeedsOfMutexes(self._recording, self._ledger, waiters, stacks, self._does)
         self._holders = MutexHolders(self._recording, waiters, position, self._does)
@@ -109,7 +109,7 @@ class NeedsElsewhere:
             return Need([], by, how, Certainty.PERHAPS, more=self._channels.more_of(wait, by))
         return need
 
-    def _reader_for(self, wait: ObjectWait) -> Optional[Name]:
+    def _reader_for(self, wait: ObjectWait) -> Name | None:
         """The goroutine that could give a value to a waiter, if the waiter wrote a request and no value has been put
         into its channel yet. The result is the goroutine that waits to read from the waiter's connection, as a client's
         reader does."""
@@ -128,7 +128,7 @@ class NeedsElsewhere:
         )
         return next(readers, None)
 
-    def _of_answer(self, wait: ObjectWait) -> Optional[Need]:
+    def _of_answer(self, wait: ObjectWait) -> Need | None:
         """What a goroutine needs while it waits for an answer. Another goroutine read the answer but didn't pass it on,
         took the request but didn't answer it, or has ended."""
         if not is_for_values(wait):
@@ -139,7 +139,7 @@ class NeedsElsewhere:
         found = dropped_answer(self._index, wait, self._hands[own])
         return found or dropped_request(self._recording, wait, self._waiters) or ended_hand(self._index, wait)
 
-    def _closed_later(self, wait: ObjectWait) -> Optional[Need]:
+    def _closed_later(self, wait: ObjectWait) -> Need | None:
         """What a goroutine needs while it waits in a select: another goroutine that will later close a channel or
         cancel a context. The result is computed once for all selects of a line."""
         key = "later", wait.stack.own()
@@ -205,7 +205,7 @@ class NeedsElsewhere:
         ]
         return Need(says)
 
-    def _of_response(self, wait: ObjectWait) -> Optional[Need]:
+    def _of_response(self, wait: ObjectWait) -> Need | None:
         """What a goroutine needs while it waits for a net/http response: the goroutine that serves the request, if it
         is in this recording."""
         socket = socket_of(self._index, wait, self._position)
@@ -223,7 +223,7 @@ class NeedsElsewhere:
         now = self._waiters.get(server)
         return now is not None and now.is_of_go and now.call is not None and now.call.name in READING
 
-    def _ended_before(self, wait: ObjectWait, elsewhere: bool = False) -> Optional[Name]:
+    def _ended_before(self, wait: ObjectWait, elsewhere: bool = False) -> Name | None:
         """The goroutine that ended this goroutine's last wait at the same line and now waits itself. Unless
         `elsewhere`, only waits on the same channels or mutex count."""
         earlier = (
@@ -239,7 +239,7 @@ class NeedsElsewhere:
         )
         return next((by for by in same if by in self._waiters), None)
 
-    def _does(self, name: Name, stack: Optional[Stack] = None) -> str:
+    def _does(self, name: Name, stack: Stack | None = None) -> str:
         """Text for what a goroutine does now. If the goroutine has ended, the text says so and names its last place,
         unless that place is the known stack. Empty if unknown."""
         if wait := self._waits.at(name, self._position):

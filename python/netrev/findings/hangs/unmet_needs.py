@@ -3,10 +3,9 @@ calls: calls whose descriptor was closed; Reads and Writes whose deadline was se
 earlier calls; and Reads that didn't get the end of the stream."""
 
 import re
-from typing import Optional
 
-from netrev.findings.evidence.past_tense import in_the_past
 from netrev.findings.evidence.call_words import is_of_go, place_of_step
+from netrev.findings.evidence.past_tense import in_the_past
 from netrev.findings.source.package import places_with
 from netrev.recording.call import Call
 from netrev.run.index import READING, RunIndex
@@ -17,7 +16,7 @@ from .needs import Needs
 DUPLICATES = re.compile(r"\.File\(\)|\bsyscall\.Dup")
 
 
-def given_up_sentence(index: RunIndex, call: Call, by: Optional[Call]) -> list[str]:
+def given_up_sentence(index: RunIndex, call: Call, by: Call | None) -> list[str]:
     """Sentences about what a call waited for when Go's own code closed its descriptor, as Go does if a connection's
     context has ended."""
     if by is None or not call.first < call.cause or not is_of_go(index.recording, by) or by.goroutine == call.goroutine:
@@ -33,7 +32,9 @@ def found_sentence(index: RunIndex, call: Call) -> list[str]:
     if index.is_listening(call) or not call.first < call.last:
         return []
     need = Needs(index, {}, call.last).of_call(call)
-    return list(map(in_the_past, [*([] if need.is_plain else need.more), *chain_sentence(index, call, need, call.last)]))
+    return list(
+        map(in_the_past, [*([] if need.is_plain else need.more), *chain_sentence(index, call, need, call.last)])
+    )
 
 
 def endless_sentence(index: RunIndex, call: Call) -> list[str]:

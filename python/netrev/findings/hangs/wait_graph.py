@@ -2,13 +2,14 @@
 roots at which the chains of waits end. If several goroutines could end a wait, the graph has only one of them."""
 
 from collections import defaultdict
+from collections.abc import Callable, Hashable, Iterable, Iterator
 from functools import lru_cache
-from typing import Callable, Hashable, Iterable, Iterator, NamedTuple, Optional
+from typing import NamedTuple
 
+from netrev.findings.evidence.call_words import name_of, place_in
 from netrev.findings.evidence.deadlines_ahead import deadline_ahead
 from netrev.findings.evidence.need import Certainty, Need
 from netrev.findings.evidence.waiters import Waiter, waiters_at
-from netrev.findings.evidence.call_words import name_of, place_in
 from netrev.recording.call import Call
 from netrev.recording.goroutines import A_CONDITION, MUTEXES
 from netrev.recording.recording import Recording
@@ -59,7 +60,7 @@ class Hang(NamedTuple):
     alike: list[Waiter] = []
     beside: list[Waiter] = []
     is_loose: bool = False
-    until: Optional[Call] = None
+    until: Call | None = None
 
     @property
     def root(self) -> Waiter:
@@ -139,7 +140,7 @@ class WaitGraph:
         return sum(len(hang.every_root) + hang.waiting for hang in self.shown if not hang.is_quiet)
 
     @property
-    def main(self) -> Optional[Name]:
+    def main(self) -> Name | None:
         """The main goroutine, if known."""
         return name_of_goid(self.recording.lines, MAIN) if MAIN in self.recording.lines.goroutines else None
 
@@ -205,7 +206,7 @@ class WaitGraph:
         rings, seen = [], set[Name]()
         for name in self.edges:
             path: dict[Name, None] = {}
-            at: Optional[Name] = name
+            at: Name | None = name
             while at is not None and at not in path and at not in seen:
                 path[at] = None
                 at = self.edges[at].on if at in self.edges else None

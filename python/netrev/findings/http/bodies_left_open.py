@@ -3,10 +3,9 @@ requests."""
 
 from collections import defaultdict
 from operator import attrgetter
-from typing import Optional
 
-from netrev.findings.evidence.ledger import Ledger
 from netrev.findings.evidence.call_words import place_in
+from netrev.findings.evidence.ledger import Ledger
 from netrev.findings.pools.leaking_paths import paths_past_close
 from netrev.recording.goroutines import FOR_VALUE, PUT
 from netrev.recording.recording import Recording
@@ -43,7 +42,7 @@ def is_kept(wait: ObjectWait) -> bool:
     return in_loop and len(wait.objects) > 1 and all(at.use == FOR_VALUE for at in wait.objects)
 
 
-def request_of(recording: Recording, wait: ObjectWait) -> Optional[tuple[Name, Stack]]:
+def request_of(recording: Recording, wait: ObjectWait) -> tuple[Name, Stack] | None:
     """The goroutine that made the last request on a connection, and its stack when it passed the request to the
     connection's goroutine."""
     lines = recording.lines

@@ -3,19 +3,20 @@ ended. The reason is the goroutine and line that cancelled the context, or the t
 
 import re
 from collections import defaultdict
+from collections.abc import Iterator
 from functools import lru_cache
 from operator import attrgetter
-from typing import Iterator, NamedTuple, Optional
+from typing import NamedTuple
 
-from netrev.findings.evidence.responses import contains, server_of
 from netrev.findings.evidence.call_words import place_in, waits_words
+from netrev.findings.evidence.responses import contains, server_of
 from netrev.findings.source.functions import found_in, text_at
 from netrev.recording.call import Call
+from netrev.recording.cell_meanings import duration
 from netrev.recording.goroutines import CLOSED, ENDED, ObjectUse, Timer
 from netrev.recording.recording import Recording
 from netrev.recording.waits import name_of_goid, waits_of
 from netrev.recording.where import Stack
-from netrev.recording.cell_meanings import duration
 from netrev.run.index import RunIndex
 
 OF_A_CONTEXT = "context.(*cancelCtx).cancel"
@@ -45,7 +46,7 @@ class Cancel(NamedTuple):
     timers: list[Timer]
 
 
-def cancel_before(index: RunIndex, step: int) -> Optional[Cancel]:
+def cancel_before(index: RunIndex, step: int) -> Cancel | None:
     """Why a goroutine made a step: one of the functions on its stack found a channel closed, and the goroutine has used
     no socket since."""
     recording = index.recording

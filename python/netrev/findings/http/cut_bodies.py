@@ -2,7 +2,7 @@
 stream."""
 
 import re
-from typing import Iterator
+from collections.abc import Iterator
 
 from netrev.findings.source.package import places_with
 from netrev.recording.call import Call, Outcome

@@ -2,11 +2,12 @@
 goroutines use after the handler returned. The module reads the program's source."""
 
 import re
-from typing import Iterator, NamedTuple, Optional
+from collections.abc import Iterator
+from typing import NamedTuple
 
+from netrev.findings.evidence.call_words import place_in
 from netrev.findings.evidence.ledger import Ledger
 from netrev.findings.evidence.responses import SERVE
-from netrev.findings.evidence.call_words import place_in
 from netrev.findings.finding import Cause
 from netrev.findings.source.functions import range_of, source_of
 from netrev.findings.source.package import places_with
@@ -95,7 +96,7 @@ def causes_of_ended(index: RunIndex) -> list[Cause]:
     return [cause for request in ended_before(index) if (cause := cause_of(index, request))]
 
 
-def cause_of(index: RunIndex, ended: EndedBefore) -> Optional[Cause]:
+def cause_of(index: RunIndex, ended: EndedBefore) -> Cause | None:
     """The cause for a request that wasn't sent, attached to the last call before the request; None if no call came
     before it."""
     near = next(back(index.calls, ended.use.last), None)

@@ -2,17 +2,19 @@
 until the handler returns or calls Flush. The module reads the program's source."""
 
 import re
-from typing import Iterator, Optional
+from collections.abc import Iterator
 
+from netrev.findings.evidence.call_words import text_of_call
 from netrev.findings.evidence.ended_goroutines import loop_around
 from netrev.findings.evidence.responses import SERVE, contains, server_of
-from netrev.findings.evidence.call_words import text_of_call
 from netrev.findings.source.functions import Lines, indent_of, range_of, source_of
 from netrev.findings.source.statements import code_at
 from netrev.recording.call import Call
 from netrev.recording.recording import Recording
 from netrev.recording.waits import Name, waits_of
-from netrev.recording.where import OF_THE_PROGRAM, SourceCall as LineCall, Stack
+from netrev.recording.where import OF_THE_PROGRAM
+from netrev.recording.where import SourceCall as LineCall
+from netrev.recording.where import Stack
 from netrev.run.index import RunIndex, back
 from netrev.text.plurals import counted
 
@@ -46,7 +48,7 @@ def held_back(index: RunIndex, socket: int, position: int) -> list[str]:
     ]
 
 
-def stack_of(index: RunIndex, name: Name, position: int) -> Optional[Stack]:
+def stack_of(index: RunIndex, name: Name, position: int) -> Stack | None:
     """The stack in which a goroutine waits at a position."""
     if wait := waits_of(index.recording).at(name, position):
         return wait.stack

@@ -1,7 +1,7 @@
 """Answers of an http.Server that its WriteTimeout cut off, and the handler that ran when the timeout passed. Only Go's
 own code wrote these answers."""
 
-from typing import Iterator
+from collections.abc import Iterator
 
 from netrev.findings.evidence.call_words import duration, is_of_go, text_of_call, waits_words
 from netrev.findings.finding import Cause

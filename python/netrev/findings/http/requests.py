@@ -1,18 +1,19 @@
 """The requests of net/http's client, each with its line, goroutine and socket. The requests are found from the channels
 of the client's connections. The module also finds the requests that ended because their contexts ended."""
 
+from collections.abc import Iterator
 from functools import lru_cache
 from operator import attrgetter
-from typing import Iterator, NamedTuple, Optional
+from typing import NamedTuple
 
-from netrev.findings.evidence.responses import WRITE_LOOP, contains
 from netrev.findings.evidence.call_words import place_in
+from netrev.findings.evidence.responses import WRITE_LOOP, contains
 from netrev.recording.call import Call
+from netrev.recording.cell_meanings import duration
 from netrev.recording.goroutines import CLOSED, ENDED, PUT, TOOK, ObjectUse, Timer
 from netrev.recording.recording import Recording
 from netrev.recording.waits import Name, name_of_goid
 from netrev.recording.where import Stack
-from netrev.recording.cell_meanings import duration
 from netrev.run.index import RunIndex
 
 from .cancellations import is_of_a_rest
@@ -45,7 +46,7 @@ class CancelledRequest(NamedTuple):
     step: int
     by: Name
     stack: Stack
-    timer: Optional[Timer]
+    timer: Timer | None
 
     @property
     def is_late(self) -> bool:
@@ -96,7 +97,7 @@ def request_of(recording: Recording, use: ObjectUse, socket: int) -> ClientReque
     )
 
 
-def written_by(index: RunIndex, goid: int) -> Optional[int]:
+def written_by(index: RunIndex, goid: int) -> int | None:
     """The only socket to which a goroutine has written; None if it has written to none or to several."""
     sockets = {call.socket for call in index.by_goid(goid) if call.name == "Write"}
     return sockets.pop() if len(sockets) == 1 else None
@@ -146,7 +147,7 @@ def cancelled(
         )
 
 
-def timer_of(recording: Recording, request: ClientRequests, close: ObjectUse) -> Optional[Timer]:
+def timer_of(recording: Recording, request: ClientRequests, close: ObjectUse) -> Timer | None:
     """The timer of the deadline that ended a request's context; None if uncertain. If the client has a Timeout, the
     result is the timer of that Timeout: the last such timer that the request's goroutine made at the request's line
     before it handed the request over. Otherwise, the result is the only timer of the program's contexts that was due by

@@ -3,18 +3,20 @@ connection first. That goroutine closes the connection if a request's body retur
 ContentLength, or was read by an earlier request."""
 
 import re
-from typing import Iterator, NamedTuple, Optional
+from collections.abc import Iterator
+from typing import NamedTuple
 
+from netrev.findings.evidence.call_words import place_in
 from netrev.findings.evidence.ledger import END
 from netrev.findings.evidence.responses import WRITE_LOOP, contains
-from netrev.findings.evidence.call_words import place_in
 from netrev.findings.finding import Cause
 from netrev.findings.source.functions import found_in
 from netrev.recording.call import CLOSE, Call
 from netrev.recording.goroutines import PUT, TOOK, ObjectUse
 from netrev.recording.recording import Recording
 from netrev.recording.waits import Name, name_of_goid
-from netrev.recording.where import OF_THE_PROGRAM, SourceCall as LineCall
+from netrev.recording.where import OF_THE_PROGRAM
+from netrev.recording.where import SourceCall as LineCall
 from netrev.run.index import RunIndex
 
 from .requests import ROUND_TRIP, cancelled_requests
@@ -72,7 +74,7 @@ def unsent_requests(index: RunIndex) -> Iterator[Unsent]:
                     yield Unsent(use, name_of_goid(lines, use.goid), call, step_before(index.recording, use))
 
 
-def request_of(index: RunIndex, closed: Call) -> Optional[ObjectUse]:
+def request_of(index: RunIndex, closed: Call) -> ObjectUse | None:
     """The last request that a goroutine took before it closed a connection."""
     lines, goid = index.recording.lines, index.recording.lines.goid_of(closed.goroutine, closed.first)
     found = list[ObjectUse]()

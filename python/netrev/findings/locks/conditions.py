@@ -2,7 +2,8 @@
 change the condition of the loop around the Wait but call neither Signal nor Broadcast."""
 
 import re
-from typing import Iterator, NamedTuple, Optional
+from collections.abc import Iterator
+from typing import NamedTuple
 
 from netrev.findings.evidence.ended_goroutines import body_of, loop_around
 from netrev.findings.source.functions import Lines, indent_of, range_of, source_of
@@ -81,7 +82,7 @@ def mistaken_signal(recording: Recording, wait: ObjectWait) -> list[str]:
     ][:MOST]
 
 
-def source_at(recording: Recording, wait: ObjectWait) -> Optional[tuple[SourceCall, Lines, range]]:
+def source_at(recording: Recording, wait: ObjectWait) -> tuple[SourceCall, Lines, range] | None:
     """The line of the program at which a goroutine waits, the lines of its file, and those of its function; None if
     unknown."""
     own = wait.stack.own()

@@ -2,10 +2,10 @@
 of Done are missing, and the goroutines that ended without calling it."""
 
 from collections import Counter
-from typing import NamedTuple, Optional
+from typing import NamedTuple
 
-from netrev.findings.evidence.siblings import DEFERRED, Kind, lines_in, lines_words
 from netrev.findings.evidence.call_words import place_in
+from netrev.findings.evidence.siblings import DEFERRED, Kind, lines_in, lines_words
 from netrev.recording.goroutines import ADDED, DONE, ObjectUse
 from netrev.recording.recording import Recording
 from netrev.recording.waits import Name, name_of_goid, of_names
@@ -40,7 +40,7 @@ def total(uses: list[ObjectUse]) -> int:
     return sum(use.often for use in uses)
 
 
-def count_of(recording: Recording, number: int) -> Optional[Count]:
+def count_of(recording: Recording, number: int) -> Count | None:
     """The count of a WaitGroup that lacks calls of Done; None if unknown."""
     uses = recording.lines.uses.get(number, ())
     count = Count(*([use for use in uses if use.what == what] for what in (ADDED, DONE)))

@@ -3,12 +3,13 @@ or from the function that started them. If goroutines ended without Done, the mo
 others."""
 
 import re
-from typing import Callable, Container, NamedTuple, Optional
+from collections.abc import Callable, Container
+from typing import NamedTuple
 
+from netrev.findings.evidence.call_words import short
 from netrev.findings.evidence.need import Certainty, Need
 from netrev.findings.evidence.siblings import lines_words, odd_goroutines
 from netrev.findings.evidence.waiters import Waiter
-from netrev.findings.evidence.call_words import short
 from netrev.findings.pools.made_channels import has_returned
 from netrev.findings.source.functions import found_in, indent_of, is_last_line, is_same_variable, source_of, text_at
 from netrev.findings.streams.failed_dials import failed_dial, refused, refused_words
@@ -51,7 +52,7 @@ class Groups:
             tuple[SourceCall, ...], list[Member]
         ] = {}  # the members, keyed by the program's calls in which a goroutine waits
 
-    def of(self, waiter: Waiter, waiters: Container[Name], does: Callable[[Name], str]) -> Optional[Need]:
+    def of(self, waiter: Waiter, waiters: Container[Name], does: Callable[[Name], str]) -> Need | None:
         """What a goroutine needs while it waits on a WaitGroup; None if no goroutine may call Done."""
         calls = tuple(call for call in waiter.stack.calls if call.of == OF_THE_PROGRAM)
         if calls not in self._members:
@@ -64,7 +65,9 @@ class Groups:
         if itself and count and self._goid(itself) in started_by(self._recording, count):
             at = f"{itself.line.file}:{itself.number}"
             when = self._when(itself) or " after that"
-            return Need([f"It waits for itself: it calls Done at {at} only{when}.", count_sentence(self._recording, count)])
+            return Need(
+                [f"It waits for itself: it calls Done at {at} only{when}.", count_sentence(self._recording, count)]
+            )
         if count and (passed := self._passed_by(count, does)):
             return Need(passed, is_odd=True)
         skipped = skipped_done(self._recording, self._waits, count, self._position) if count else []
@@ -118,18 +121,18 @@ class Groups:
         lines = source_of(self._recording, call.file)
         return lines is not None and indent_of(lines[call.line - 1]) == indent_of(lines[number - 1])
 
-    def _count(self, waiter: Waiter) -> Optional[Count]:
+    def _count(self, waiter: Waiter) -> Count | None:
         """The count of the WaitGroup, if the recording has it."""
         at = waiter.wait.objects[:1] if waiter.wait else ()
         return count_of(self._recording, at[0].object) if at else None
 
-    def _without_done(self, count: Optional[Count]) -> list[str]:
+    def _without_done(self, count: Count | None) -> list[str]:
         """Sentences about the number of missing calls of Done and the goroutines that ended without calling it; none if
         no such goroutine is known."""
         ended = ended_sentence(self._recording, count) if count else []
         return [count_sentence(self._recording, count), *ended] if count and ended else []
 
-    def _in_order(self, members: list[Member], count: Optional[Count]) -> list[Member]:
+    def _in_order(self, members: list[Member], count: Count | None) -> list[Member]:
         """The goroutines that may call Done, first those that haven't called it yet. If callers of Add started some of
         them after the first Add, the result has only the goroutines started this way. If none was, but all goroutines
         that called Done were, the result is empty."""

@@ -1,16 +1,17 @@
 """The goroutine that holds a mutex for which another goroutine waits, found in the recorder's table of the mutexes that
 were locked at the end."""
 
-from typing import Callable, Iterator, Mapping, NamedTuple, Optional
+from collections.abc import Callable, Iterator, Mapping
+from typing import NamedTuple
 
+from netrev.findings.evidence.call_words import place_in, short
 from netrev.findings.evidence.need import GOES_FIRST, Certainty, Need
 from netrev.findings.evidence.responses import contains
 from netrev.findings.evidence.waiters import Waiter
-from netrev.findings.evidence.call_words import place_in, short
 from netrev.findings.source.copied_structs import copies_sentence
 from netrev.findings.source.functions import found_in, text_at
-from netrev.findings.source.missing_unlocks import returns_locked
 from netrev.findings.source.locks import LOCK, UNLOCK
+from netrev.findings.source.missing_unlocks import returns_locked
 from netrev.recording.goroutines import READ, HeldMutex
 from netrev.recording.recording import Recording
 from netrev.recording.waits import Name, ObjectWait, name_of_goid
@@ -31,7 +32,7 @@ class Holder(NamedTuple):
     is_reader: bool
 
     @property
-    def call(self) -> Optional[SourceCall]:
+    def call(self) -> SourceCall | None:
         """The call of the program that locked the mutex."""
         found = self.stack.own()
         return found[0] if found and found[0].of == OF_THE_PROGRAM else None
@@ -125,7 +126,7 @@ class MutexHolders:
         doing = f", which {does}" if does else ""
         return Need([f"{str(holder.name).capitalize()} {holder.how}{holder.locked}{others}{doing}."], is_odd=True)
 
-    def _left_locked(self, holder: Holder, now: Stack) -> Optional[Need]:
+    def _left_locked(self, holder: Holder, now: Stack) -> Need | None:
         """What a waiting goroutine needs if the holder's stack shows that the holder has left the function that locked
         the mutex. On other paths, that function unlocks the mutex. Else None."""
         call = holder.call

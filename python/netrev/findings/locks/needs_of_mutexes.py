@@ -1,20 +1,20 @@
 """What a goroutine that waits for a mutex needs: the goroutine that perhaps holds the mutex, found from stacks, from
 earlier holders, and from the program's source."""
 
-from typing import Callable, Mapping, NamedTuple, Optional
+from collections.abc import Callable, Mapping
+from typing import NamedTuple
 
 from netrev.findings.evidence.ledger import Ledger
 from netrev.findings.evidence.need import Certainty, Need
 from netrev.findings.evidence.waiters import Waiter
 from netrev.findings.source.functions import is_same_variable, source_of, text_at
-from netrev.findings.source.missing_unlocks import left_locked
 from netrev.findings.source.locks import LOCK, LockedMutex, held_at, owner
+from netrev.findings.source.missing_unlocks import left_locked
 from netrev.findings.source.package import place_of_variable
 from netrev.recording.goroutines import MUTEXES
 from netrev.recording.recording import Recording
 from netrev.recording.waits import Name, ObjectWait, of_names
 from netrev.recording.where import OF_THE_PROGRAM, SourceCall, Stack
-
 
 DO = ("sync.(*Once).Do", "sync.(*Once).doSlow")
 MOST_HOLDERS = 50  # the most mutexes to examine
@@ -57,9 +57,9 @@ class NeedsOfMutexes:
         self._recording, self._ledger, self._waiters, self._does = recording, ledger, waiters, does
         self._stacks = stacks
         self._found: dict[tuple[SourceCall, frozenset[int]], list[PossibleHolder]] = {}
-        self._locks: dict[tuple[SourceCall, SourceCall, frozenset[SourceCall]], Optional[int]] = {}
+        self._locks: dict[tuple[SourceCall, SourceCall, frozenset[SourceCall]], int | None] = {}
 
-    def of(self, waiter: Waiter, wait: ObjectWait) -> Optional[Need]:
+    def of(self, waiter: Waiter, wait: ObjectWait) -> Need | None:
         """What a goroutine needs while it waits for a mutex; None if no possible holder is found."""
         found = waiter.stack.own()
         if not found or found[0].of != OF_THE_PROGRAM:
@@ -83,7 +83,7 @@ class NeedsOfMutexes:
         held = "It is held by" if is_likely else "Perhaps it is held by"
         return Need([f"{held} {first.name}, which {self._does(first.name)}."])
 
-    def _crossed(self, waiter: Waiter, wait: ObjectWait) -> Optional[Need]:
+    def _crossed(self, waiter: Waiter, wait: ObjectWait) -> Need | None:
         """What a waiting goroutine needs if it and another goroutine are in the same function, hold a mutex there, and
         wait for different mutexes. This happens if they call the function with the same mutexes in different orders."""
         objects = {at.object for at in wait.objects}
@@ -148,7 +148,7 @@ class NeedsOfMutexes:
         waiter = self._waiters.get(name)
         return {at.object for at in waiter.wait.objects} if waiter and waiter.wait else set()
 
-    def _lock_of(self, call: SourceCall, lock: SourceCall, locks: set[SourceCall]) -> Optional[int]:
+    def _lock_of(self, call: SourceCall, lock: SourceCall, locks: set[SourceCall]) -> int | None:
         """The line at which a goroutine in the function of `call` locked a mutex that may be the awaited one.
         Goroutines wait for the awaited mutex in the call `lock` or in `locks`. The result is 0 if the line isn't
         certain, and None if the goroutine holds no such mutex there."""
@@ -157,7 +157,7 @@ class NeedsOfMutexes:
             self._locks[key] = self._check_for_lock(call, lock, locks)
         return self._locks[key]
 
-    def _check_for_lock(self, call: SourceCall, lock: SourceCall, locks: set[SourceCall]) -> Optional[int]:
+    def _check_for_lock(self, call: SourceCall, lock: SourceCall, locks: set[SourceCall]) -> int | None:
         name = LOCK.search(text_at(self._recording, lock))
         for held in self._held(call):
             is_alike = owner(call.function) == owner(lock.function)

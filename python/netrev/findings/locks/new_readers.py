@@ -2,12 +2,13 @@
 had read ahead are lost with that reader, and the other end waits for answers to them."""
 
 import re
-from typing import Optional
 
 from netrev.findings.evidence.call_words import result_words, text_of_call
 from netrev.findings.source.functions import range_of, source_of, text_at
 from netrev.recording.call import Call
-from netrev.recording.where import OF_THE_PROGRAM, SourceCall as LineCall, Stack
+from netrev.recording.where import OF_THE_PROGRAM
+from netrev.recording.where import SourceCall as LineCall
+from netrev.recording.where import Stack
 from netrev.run.index import RunIndex, back
 
 from .groups import outermost
@@ -169,7 +170,7 @@ def waits_on(index: RunIndex, other: int, read: Call, answer: Call, position: in
     """Whether a goroutine at the other end got the answer, waits to read more, and has written nothing since the
     Read."""
     calls = list(back(index.by_socket.get(other, ()), position))
-    now: Optional[Call] = next((call for call in calls if call.name == "Read"), None)
+    now: Call | None = next((call for call in calls if call.name == "Read"), None)
     write = next((call for call in calls if call.name == "Write" and call.moved), None)
     is_read = any(call.name == "Read" and call.moved and call.last > answer.first for call in calls)
     return bool(now and not 0 < now.last <= position and write and write.first < read.last and is_read)

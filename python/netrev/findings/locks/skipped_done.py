@@ -4,11 +4,11 @@ it."""
 
 import re
 from collections import defaultdict
-from typing import NamedTuple, Optional
+from typing import NamedTuple
 
 from netrev.findings.evidence.ended_goroutines import body_of, loop_around
 from netrev.findings.source.functions import Lines, range_of, source_of, text_at
-from netrev.findings.source.skipped_paths import is_match, is_text, skipped_paths, that_stay, paths_text
+from netrev.findings.source.skipping_paths import is_match, is_text, paths_text, skipped_paths, that_stay
 from netrev.recording.goroutines import PUT, TOOK, ObjectUse
 from netrev.recording.recording import Recording
 from netrev.recording.waits import Waits, name_of_goid
@@ -85,7 +85,7 @@ def unput_sentence(recording: Recording, count: Count, puts: list[ObjectUse]) ->
     return [f"{many} came from {line.place()}, and each had its Done: more was added than that{path_words}."]
 
 
-def rounds_of(recording: Recording, stack: Stack) -> Optional[Rounds]:
+def rounds_of(recording: Recording, stack: Stack) -> Rounds | None:
     """The innermost loop around a call of Done, in the function that calls Done or in one of its callers; None unless
     the loop takes its values from a channel."""
     calls = [call for call in stack.calls if call.of == OF_THE_PROGRAM]
@@ -138,7 +138,9 @@ def has_ended(recording: Recording, use: ObjectUse) -> bool:
     return known is not None and known.last >= 0
 
 
-def rounds_sentence(recording: Recording, every: list[Rounds], takes: list[ObjectUse], done: list[ObjectUse]) -> list[str]:
+def rounds_sentence(
+    recording: Recording, every: list[Rounds], takes: list[ObjectUse], done: list[ObjectUse]
+) -> list[str]:
     """Sentences that say how often a loop took a value and how often it called Done, and name the paths that skip
     Done."""
     rounds = every[-1]

@@ -4,7 +4,7 @@ value back twice or never."""
 
 from collections import Counter, defaultdict
 from operator import attrgetter
-from typing import NamedTuple, Optional
+from typing import NamedTuple
 
 from netrev.findings.evidence.call_words import short
 from netrev.recording.goroutines import PUT, TOOK, ObjectUse
@@ -177,7 +177,7 @@ def program_frames(stack: Stack) -> Frames:
     return tuple(call for call in stack.calls if call.of == OF_THE_PROGRAM)
 
 
-def place_in(function: str, frames: Frames) -> Optional[ChannelUse]:
+def place_in(function: str, frames: Frames) -> ChannelUse | None:
     """The innermost call of a function in a stack. If one of the function's literals or deferred calls is running, the
     result has the line in the literal or the line of the `defer` statement."""
     for at, call in enumerate(frames):
@@ -214,7 +214,7 @@ def has_ended(recording: Recording, name: Name) -> bool:
     return known is not None and known.last >= 0
 
 
-def current_in(function: str, path: Path, stack: Optional[Stack]) -> Optional[tuple[SourceCall, Frames]]:
+def current_in(function: str, path: Path, stack: Stack | None) -> tuple[SourceCall, Frames] | None:
     """The line at which a goroutine is in the function, and the goroutine's frames in the program; None if the
     goroutine isn't in a call of the function by these callers."""
     frames = program_frames(stack) if stack else ()

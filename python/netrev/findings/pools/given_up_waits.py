@@ -1,8 +1,8 @@
 """Selects that gave up waiting for a channel, for example because a pool had no free slot. The channel was full, or
 empty, and stays so until the end of the recording."""
 
+from collections.abc import Iterator
 from operator import attrgetter
-from typing import Iterator
 
 from netrev.findings.evidence.call_words import place_in
 from netrev.findings.finding import Cause
@@ -13,8 +13,8 @@ from netrev.recording.where import OF_THE_PROGRAM
 from netrev.run.index import RunIndex
 from netrev.text.plurals import counted
 
-from .balances import balances_of
 from .balance_sentences import kept_sentence
+from .balances import balances_of
 from .leaking_paths import paths_with_an_error
 
 A_WHILE = 20_000_000  # nanoseconds, the shortest wait that counts

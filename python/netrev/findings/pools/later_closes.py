@@ -2,7 +2,7 @@
 cancels a case's context, and hasn't done so yet. The lines come from the program's source."""
 
 import re
-from typing import Iterable, Iterator, Optional
+from collections.abc import Iterable, Iterator
 
 from netrev.findings.evidence.need import Certainty, Need
 from netrev.findings.source.functions import Lines, indent_of, source_of
@@ -18,7 +18,7 @@ CASE = re.compile(r"\s*case (?:\w+(?:, \w+)? :?= )?<-\s*([\w.]+)(\(\))?:")
 DONE = ".Done"
 
 
-def closed_later(recording: Recording, wait: ObjectWait, stacks: Iterable[tuple[Name, Stack]]) -> Optional[Need]:
+def closed_later(recording: Recording, wait: ObjectWait, stacks: Iterable[tuple[Name, Stack]]) -> Need | None:
     """What a goroutine needs while it waits in a select: another goroutine that will later close a case's channel or
     cancel a case's context. The result is None if the goroutine isn't in a select, or if no such goroutine is found."""
     own = wait.stack.own()

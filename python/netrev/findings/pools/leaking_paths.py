@@ -2,20 +2,20 @@
 gets a net/http response and doesn't close its body."""
 
 import re
+from collections.abc import Iterable
 from operator import attrgetter
-from typing import Iterable, Optional
 
 from netrev.findings.evidence.ended_goroutines import body_of, loop_at
 from netrev.findings.source.functions import found_in, function_of, indent_of, source_of, text_at
-from netrev.findings.source.skipped_paths import (
+from netrev.findings.source.skipping_paths import (
     Test,
     Way,
     is_match,
     is_text,
     nothing,
-    skipped_paths,
     paths_are,
     paths_text,
+    skipped_paths,
 )
 from netrev.recording.goroutines import FOR_ROOM
 from netrev.recording.recording import Recording
@@ -111,7 +111,7 @@ def gives_on_most_paths(recording: Recording, balances: Iterable[Balance]) -> bo
     return False
 
 
-def gives_back(recording: Recording, given: Iterable[SourceCall]) -> Optional[Test]:
+def gives_back(recording: Recording, given: Iterable[SourceCall]) -> Test | None:
     """A test of whether a statement gives something back. The test is derived from the statements that did so, and is
     None if their text isn't known."""
     patterns = {pattern for line in given if (pattern := pattern_of(text_at(recording, line)))}

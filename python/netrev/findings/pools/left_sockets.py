@@ -2,19 +2,20 @@
 module infers this from the goroutine's later stack and from the program's source."""
 
 import re
-from typing import Optional
 
 from netrev.findings.source.functions import range_of, text_at
 from netrev.findings.source.package import HEAD, files_of
-from netrev.findings.source.skipped_paths import is_match, paths_are, paths_text
+from netrev.findings.source.skipping_paths import is_match, paths_are, paths_text
 from netrev.findings.source.statements import code_at
 from netrev.recording.call import Call
 from netrev.recording.recording import Recording
 from netrev.recording.waits import Name, waits_of
-from netrev.recording.where import OF_THE_PROGRAM, SourceCall as LineCall, Stack
+from netrev.recording.where import OF_THE_PROGRAM
+from netrev.recording.where import SourceCall as LineCall
+from netrev.recording.where import Stack
 from netrev.run.index import RunIndex, back
 
-from .leaking_paths import USES, closed_in_a_loop, value_of, paths_through
+from .leaking_paths import USES, closed_in_a_loop, paths_through, value_of
 
 TAKEN = re.compile(r"(?:if )?(\w+)(?:, \w+)? :?= ")
 CALL = re.compile(r"(?<![\w.])(\w+)\(([^()]*)\)")
@@ -104,7 +105,7 @@ def only_uses(recording: Recording, file: str, function: str, place: int) -> boo
     return not any(keeps.search(USES.sub("(", code_at(lines, at))) for at in within[1:])
 
 
-def stack_at(index: RunIndex, goroutine: int, position: int) -> Optional[Stack]:
+def stack_at(index: RunIndex, goroutine: int, position: int) -> Stack | None:
     """The stack of a goroutine's call or wait at a position. If it is in neither, the stack of its last call."""
     call, wait = index.call_at(goroutine, position), waits_of(index.recording).at(Name(goroutine), position)
     if wait:

@@ -2,7 +2,8 @@
 goroutine is in a function, before a line that puts a value into the channel or takes a value from it."""
 
 import re
-from typing import Iterable, NamedTuple, Optional
+from collections.abc import Iterable
+from typing import NamedTuple
 
 from netrev.findings.evidence.need import Certainty, Need
 from netrev.findings.source.functions import (
@@ -32,7 +33,7 @@ class Giving(NamedTuple):
     within: range
 
 
-def later_giver(recording: Recording, wait: ObjectWait, stacks: Iterable[tuple[Name, Stack]]) -> Optional[Need]:
+def later_giver(recording: Recording, wait: ObjectWait, stacks: Iterable[tuple[Name, Stack]]) -> Need | None:
     """What a waiting goroutine needs: another goroutine that may do the awaited operation later. If no line of the file
     does the operation, a sentence says so. The result is None if the source isn't available."""
     own = wait.stack.own()

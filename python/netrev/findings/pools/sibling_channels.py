@@ -1,11 +1,11 @@
 """Channels that were made at the same line, a new one each time the line ran. For a goroutine that waits on such a
 channel, the module finds the goroutine that ended the waits on earlier channels of the line."""
 
-from typing import Container, Optional
+from collections.abc import Container
 
+from netrev.findings.evidence.call_words import place_in
 from netrev.findings.evidence.ledger import END, GIVES
 from netrev.findings.evidence.need import Certainty, Need
-from netrev.findings.evidence.call_words import place_in
 from netrev.recording.goroutines import CLOSED, FOR_VALUE, PUT, TOOK, ObjectUse
 from netrev.recording.recording import Recording
 from netrev.recording.waits import Name, ObjectWait, name_of_goid
@@ -13,7 +13,7 @@ from netrev.recording.waits import Name, ObjectWait, name_of_goid
 DID = {PUT: "put a value into", TOOK: "took one from", CLOSED: "closed"}
 
 
-def giver_at_siblings(recording: Recording, wait: ObjectWait, waiters: Container[Name]) -> Optional[Need]:
+def giver_at_siblings(recording: Recording, wait: ObjectWait, waiters: Container[Name]) -> Need | None:
     """What a goroutine needs while it waits on a channel, if no goroutine has yet done the awaited operation there.
     The same line had made an earlier channel. `by` is another waiting goroutine, which did the operation on the earlier
     channel."""

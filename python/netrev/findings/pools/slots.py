@@ -2,10 +2,11 @@
 that took a slot in a call that it is still in. The source shows that this goroutine gives the slot back later."""
 
 import re
-from typing import Iterable, Iterator, Mapping, NamedTuple, Optional
+from collections.abc import Iterable, Iterator, Mapping
+from typing import NamedTuple
 
-from netrev.findings.evidence.need import Certainty, Need
 from netrev.findings.evidence.call_words import short
+from netrev.findings.evidence.need import Certainty, Need
 from netrev.findings.source.functions import Lines, range_of, source_of
 from netrev.recording.goroutines import FOR_ROOM, FOR_VALUE, PUT, TOOK, At, ObjectUse
 from netrev.recording.recording import Recording
@@ -94,7 +95,7 @@ def leaving_line(lines: Lines, call: SourceCall, leavings: list[Giving]) -> int:
 
 def of_slots(
     recording: Recording, wait: ObjectWait, stacks: Mapping[Name, Stack], waiters: Mapping[Name, object]
-) -> Optional[Need]:
+) -> Need | None:
     """What a goroutine needs while it waits for a slot; None if no goroutine is known to hold a slot."""
     slots = [slot for slot in slot_holders(recording, wait, stacks.items()) if slot.name != wait.name]
     slot = next((slot for slot in slots if slot.name in waiters), None)

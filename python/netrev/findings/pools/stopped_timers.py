@@ -2,13 +2,13 @@
 only value was taken."""
 
 import re
-from typing import NamedTuple, Optional
+from typing import NamedTuple
 
+from netrev.findings.evidence.call_words import place_in
 from netrev.findings.evidence.need import Need
 from netrev.findings.evidence.waiters import TICKERS, last_time_of
-from netrev.findings.evidence.call_words import place_in
 from netrev.findings.source.functions import range_of, source_of
-from netrev.findings.source.skipped_paths import is_match, is_text, skipped_paths, that_stay, paths_are, paths_text
+from netrev.findings.source.skipping_paths import is_match, is_text, paths_are, paths_text, skipped_paths, that_stay
 from netrev.recording.goroutines import TOOK, Timer
 from netrev.recording.recording import Recording
 from netrev.recording.waits import ObjectWait, name_of_goid
@@ -26,7 +26,7 @@ class Silent(NamedTuple):
 
     name: str
     creation: Timer
-    stopped: Optional[Timer]
+    stopped: Timer | None
     was_due: bool = False
 
 
@@ -34,7 +34,7 @@ def is_by(stack: Stack, functions: tuple[str, ...]) -> bool:
     return any(call.function in functions for call in stack.calls)
 
 
-def silent_at(recording: Recording, number: int, begin: int = 0) -> Optional[Silent]:
+def silent_at(recording: Recording, number: int, begin: int = 0) -> Silent | None:
     """The timer of a channel, if it will send nothing more; None if it may send, or if unknown. If the timer went off
     before `begin` and a goroutine has waited on the channel since `begin`, the channel was empty, so the value had been
     taken."""
@@ -74,7 +74,7 @@ def silent_sentence(recording: Recording, silent: Silent) -> str:
     )
 
 
-def of_timers(recording: Recording, wait: ObjectWait) -> Optional[Need]:
+def of_timers(recording: Recording, wait: ObjectWait) -> Need | None:
     """What a goroutine needs while it waits only for a timer that will send nothing more."""
     own = wait.stack.own()
     silent = silent_at(recording, wait.objects[0].object, wait.begin) if len(wait.objects) == 1 else None

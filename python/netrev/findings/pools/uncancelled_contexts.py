@@ -2,7 +2,8 @@
 cancels the context later, from the program's source."""
 
 import re
-from typing import Iterable, NamedTuple, Optional
+from collections.abc import Iterable
+from typing import NamedTuple
 
 from netrev.findings.evidence.need import Certainty, Need
 from netrev.findings.source.functions import (
@@ -34,7 +35,7 @@ class Cancelling(NamedTuple):
     within: range
 
 
-def uncancelled(recording: Recording, wait: ObjectWait, stacks: Iterable[tuple[Name, Stack]]) -> Optional[Need]:
+def uncancelled(recording: Recording, wait: ObjectWait, stacks: Iterable[tuple[Name, Stack]]) -> Need | None:
     """What a goroutine needs while it waits only on a context's Done. The result is None if the goroutine waits on
     anything else, or if the source doesn't show the context."""
     own, lines = wait.stack.own(), recording.lines
@@ -92,7 +93,7 @@ def cancels_of(source: Lines, call: SourceCall, context: str) -> list[Cancelling
     return found
 
 
-def cancel_in(source: Lines, stack: Stack, file: str, cancels: list[Cancelling]) -> Optional[Cancelling]:
+def cancel_in(source: Lines, stack: Stack, file: str, cancels: list[Cancelling]) -> Cancelling | None:
     """The line at which a goroutine cancels a context later: a line after the goroutine's current line, or a deferred
     line of a function that the goroutine is in."""
     for call in stack.calls:

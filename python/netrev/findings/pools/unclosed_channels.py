@@ -2,14 +2,15 @@
 channel."""
 
 import re
-from typing import Iterable, NamedTuple, Optional
+from collections.abc import Iterable
+from typing import NamedTuple
 
+from netrev.findings.evidence.call_words import short, since_begin
 from netrev.findings.evidence.ended_goroutines import loop_around
 from netrev.findings.evidence.need import Certainty, Need
-from netrev.findings.evidence.call_words import short, since_begin
 from netrev.findings.source.functions import WRAPPED, Lines, is_inside, is_same_variable, range_of, source_of, text_at
 from netrev.findings.source.locks import owner
-from netrev.findings.source.skipped_paths import Way, is_match, skipped_paths, paths_text
+from netrev.findings.source.skipping_paths import Way, is_match, paths_text, skipped_paths
 from netrev.recording.goroutines import CLOSED, FOR_VALUE, PUT
 from netrev.recording.recording import Recording
 from netrev.recording.waits import Name, ObjectWait
@@ -28,7 +29,7 @@ class Closing(NamedTuple):
     within: range
 
 
-def unclosed(recording: Recording, wait: ObjectWait, stacks: Iterable[tuple[Name, Stack]]) -> Optional[Need]:
+def unclosed(recording: Recording, wait: ObjectWait, stacks: Iterable[tuple[Name, Stack]]) -> Need | None:
     """What should close a channel. A goroutine ranges over the channel, or it waits for a value although no value was
     ever put into the channel. The result is None if the source isn't available."""
     own, lines = wait.stack.own(), recording.lines
@@ -87,7 +88,7 @@ def closings_of(source: Lines, call: SourceCall, name: str) -> list[Closing]:
     return found
 
 
-def inside(source: Lines, stack: Stack, file: str, closings: list[Closing]) -> Optional[Closing]:
+def inside(source: Lines, stack: Stack, file: str, closings: list[Closing]) -> Closing | None:
     """The line at which a goroutine closes a channel later: the goroutine is in the line's function, before the line,
     or the close is deferred."""
     for call in stack.calls:
@@ -102,7 +103,7 @@ def inside(source: Lines, stack: Stack, file: str, closings: list[Closing]) -> O
     return None
 
 
-def closes_in_its_loop(source: Lines, stack: Stack, file: str, closings: list[Closing]) -> Optional[Closing]:
+def closes_in_its_loop(source: Lines, stack: Stack, file: str, closings: list[Closing]) -> Closing | None:
     """A line in a loop that closes a channel, and that a goroutine can still reach. The goroutine is in the line's
     function, and may have passed the line already."""
     for call in stack.calls:

@@ -3,7 +3,7 @@ locked at the time of the copy, the copy stays locked."""
 
 import os
 import re
-from typing import Iterator
+from collections.abc import Iterator
 
 from netrev.recording.recording import Recording
 from netrev.recording.where import OF_THE_PROGRAM, SourceCall

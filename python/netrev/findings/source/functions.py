@@ -5,7 +5,6 @@ import os
 import re
 from functools import lru_cache
 from pathlib import Path
-from typing import Optional
 
 from netrev.recording.recording import Recording
 from netrev.recording.where import SourceCall
@@ -16,13 +15,13 @@ WRAPPED = ".gowrap"  # part of the names of functions that only start another
 LITERAL = re.compile(r"\.(?:func|gowrap|deferwrap)\d+")
 
 
-def source_of(recording: Recording, file: str) -> Optional[Lines]:
+def source_of(recording: Recording, file: str) -> Lines | None:
     """The lines of a file of the program's source, if the file is available and hasn't changed since the recording."""
     return source(os.path.abspath(file), recording.lines.written)
 
 
 @lru_cache(maxsize=64)
-def source(file: str, written: float) -> Optional[Lines]:
+def source(file: str, written: float) -> Lines | None:
     """The lines of a file, if it exists and hasn't changed since the time `written`."""
     lines = lines_of(Path(file))
     return None if lines is None or os.stat(file).st_mtime > written else tuple(lines)
@@ -34,7 +33,7 @@ def function_of(recording: Recording, call: SourceCall) -> tuple[Lines, range]:
     return lines, range_of(lines, call) or range(0)
 
 
-def range_of(lines: Lines, call: SourceCall) -> Optional[range]:
+def range_of(lines: Lines, call: SourceCall) -> range | None:
     """The line numbers of a call's function. For a function literal, only the literal's own lines."""
     if not 0 < call.line <= len(lines):
         return None

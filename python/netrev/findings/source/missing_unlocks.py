@@ -2,7 +2,8 @@
 mutex, and no goroutine is known to hold it."""
 
 import re
-from typing import Iterator, NamedTuple, Optional
+from collections.abc import Iterator
+from typing import NamedTuple
 
 from netrev.recording.recording import Recording
 from netrev.recording.where import SourceCall
@@ -86,7 +87,7 @@ def functions_of(lines: Lines, near: SourceCall) -> Iterator[Function]:
             yield Function(function[1], "", "", within)
 
 
-def field_of(function: Function, name: str) -> Optional[str]:
+def field_of(function: Function, name: str) -> str | None:
     """The mutex that an expression names: a field of the receiver, or, in a function without a receiver, a variable of
     the package. The result is None for other variables."""
     first, dot, rest = name.partition(".")
@@ -110,7 +111,7 @@ def leaks_of(lines: Lines, functions: list[Function], field: str) -> list[Leak]:
     ]
 
 
-def leak_of(lines: Lines, function: Function, field: str) -> Optional[Leak]:
+def leak_of(lines: Lines, function: Function, field: str) -> Leak | None:
     """The first path on which a function returns with the mutex locked; None if the source shows no such path for
     certain. For example, the function defers an unlock, or calls another function that unlocks. Or it unlocks before it
     locks, or in a block that doesn't return. Or it locks in an inner block, and the mutex is still locked after that

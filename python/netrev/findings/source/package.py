@@ -3,8 +3,8 @@ structs."""
 
 import os
 import re
+from collections.abc import Iterator
 from functools import lru_cache
-from typing import Iterator, Optional
 
 from netrev.recording.recording import Recording
 from netrev.recording.where import SourceCall
@@ -53,7 +53,7 @@ def others_in(folder: str, name: str) -> tuple[str, ...]:
     return tuple(file for file in found if is_test or not file.endswith("_test.go"))[:MOST_FILES]
 
 
-def field_type(recording: Recording, file: str, of_type: str, field: str) -> Optional[str]:
+def field_type(recording: Recording, file: str, of_type: str, field: str) -> str | None:
     """The type of a field of a struct of the package; None if the field isn't found."""
     for _, lines in files_of(recording, file):
         if of_type in (fields := fields_in(lines)):
@@ -65,7 +65,7 @@ def field_type(recording: Recording, file: str, of_type: str, field: str) -> Opt
 def fields_in(lines: Lines) -> dict[str, dict[str, str]]:
     """The fields of each struct that a file defines, with their types."""
     found: dict[str, dict[str, str]] = {}
-    current: Optional[dict[str, str]] = None
+    current: dict[str, str] | None = None
     for text in (line.partition("//")[0].rstrip() for line in lines):
         if whole := IN_A_LINE.match(text):
             fields = (field for part in whole[2].split(";") if (field := FIELD.match(f" {part.strip()}")))
@@ -97,7 +97,7 @@ def variables_of(recording: Recording, lines: Lines, call: SourceCall) -> dict[s
     return found
 
 
-def type_of(recording: Recording, file: str, variables: dict[str, str], path: list[str]) -> Optional[str]:
+def type_of(recording: Recording, file: str, variables: dict[str, str], path: list[str]) -> str | None:
     """The type of a variable's field, from the types of the variables."""
     first, *fields = path
     kind = variables.get(first)
@@ -106,7 +106,7 @@ def type_of(recording: Recording, file: str, variables: dict[str, str], path: li
     return kind
 
 
-def place_of_variable(recording: Recording, call: SourceCall, expression: str) -> Optional[str]:
+def place_of_variable(recording: Recording, call: SourceCall, expression: str) -> str | None:
     """The field and struct that an expression names in the function of a call: `Node.mu` for `s.node.mu`; None if
     unknown."""
     lines = source(os.path.abspath(call.file), recording.lines.written)

@@ -3,7 +3,8 @@ or finishes it. The paths lead from the first line past the second line. Such a 
 `continue`, a `break` or the condition of a block."""
 
 import re
-from typing import Callable, NamedTuple, Optional
+from collections.abc import Callable
+from typing import NamedTuple
 
 from .functions import Lines
 from .statements import Statement, statements_of
@@ -63,7 +64,7 @@ class Exit(NamedTuple):
     state: PathState
 
 
-Result = tuple[Optional[PathState], list[Exit]]
+Result = tuple[PathState | None, list[Exit]]
 BEFORE, OPEN, DONE = PathState(), PathState(is_open=True), PathState(is_done=True)
 
 
@@ -139,7 +140,7 @@ class Walk(NamedTuple):
             exits += left
         return joined(afters, statement.number), exits
 
-    def is_taken(self, statement: Statement, flag: str) -> Optional[bool]:
+    def is_taken(self, statement: Statement, flag: str) -> bool | None:
         """True if the first branch of a block runs exactly when something was taken, False if it runs exactly when
         nothing was; else None."""
         head, _, condition = statement.text.removesuffix(" {").removeprefix("if ").rpartition("; ")
@@ -188,7 +189,7 @@ def is_missing(head: str, now: PathState) -> bool:
     return now.is_open and IS_THERE.match(head) is not None
 
 
-def joined(states: list[PathState], number: int) -> Optional[PathState]:
+def joined(states: list[PathState], number: int) -> PathState | None:
     """The possible states after the branches of a block."""
     if not states:
         return None
@@ -199,7 +200,7 @@ def joined(states: list[PathState], number: int) -> Optional[PathState]:
     return PathState(is_open, is_done, block or (number if is_done else 0))
 
 
-def skipped_paths(lines: Lines, within: range, begins: Optional[Test], ends: Test, keeps: Test = nothing) -> list[Way]:
+def skipped_paths(lines: Lines, within: range, begins: Test | None, ends: Test, keeps: Test = nothing) -> list[Way]:
     """The paths of a function that skip the statements matched by `ends`. They begin at a statement matched by
     `begins`, or at the beginning of the function if `begins` is None. The list is empty if no path leads from such a
     beginning to a statement matched by `ends`."""

@@ -1,7 +1,8 @@
 """A function in gofmt's form as a tree of statements: which of them are blocks, and the end of each block."""
 
 import re
-from typing import Iterator, NamedTuple
+from collections.abc import Iterator
+from typing import NamedTuple
 
 from .functions import Lines, indent_of
 

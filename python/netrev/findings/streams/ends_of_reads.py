@@ -2,10 +2,9 @@
 any bytes."""
 
 import re
-from typing import Optional
 
-from netrev.findings.evidence.responses import SERVE, contains
 from netrev.findings.evidence.call_words import is_of_go, since_begin, text_of_call
+from netrev.findings.evidence.responses import SERVE, contains
 from netrev.findings.source.package import places_with
 from netrev.recording.call import Call
 from netrev.recording.waits import Name, waits_of
@@ -77,7 +76,7 @@ def bound_sentence(functions: set[str], other: int) -> str:
     return ""
 
 
-def line_reader_of(index: RunIndex, call: Call) -> Optional[str]:
+def line_reader_of(index: RunIndex, call: Call) -> str | None:
     """The function in which a Read looks for the end of a line."""
     functions = (frame.function for frame in index.recording.lines.of(call.first).calls)
     return next((OF_A_LINE[name] for name in functions if name in OF_A_LINE), None)

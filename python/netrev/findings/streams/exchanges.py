@@ -2,11 +2,12 @@
 waits for an answer without a request, a request that was read and not answered, and a Read that asks for more bytes
 than the other end wrote."""
 
-from typing import Iterator, NamedTuple, Optional
+from collections.abc import Iterator
+from typing import NamedTuple
 
+from netrev.findings.evidence.call_words import place_of, text_of_call
 from netrev.findings.evidence.read_sizes import ReadSizes, read_sizes_of
 from netrev.findings.evidence.sizes import are_known, moved_at, size_of
-from netrev.findings.evidence.call_words import place_of, text_of_call
 from netrev.recording.call import OPEN, Call
 from netrev.recording.recording import Recording
 from netrev.run.index import MOVING, RunIndex, back
@@ -180,7 +181,7 @@ def are_alike(index: RunIndex, writes: list[Call], others: list[Call]) -> bool:
     return places[0] == places[1]
 
 
-def reader_of(index: RunIndex, other: int, request: Call, position: int) -> Optional[Call]:
+def reader_of(index: RunIndex, other: int, request: Call, position: int) -> Call | None:
     """The last Read at the other end that got bytes from a Write."""
     reads = (call for call in back(index.by_socket.get(other, ()), position) if call.name == "Read")
     read = next(

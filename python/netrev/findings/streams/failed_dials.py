@@ -1,6 +1,7 @@
 """Connections that couldn't be opened: Go closed the socket because connecting failed."""
 
-from typing import Iterator, NamedTuple, Optional
+from collections.abc import Iterator
+from typing import NamedTuple
 
 from netrev.findings.evidence.call_words import place_in, place_of_step
 from netrev.findings.finding import Cause
@@ -26,7 +27,7 @@ class UnconnectedSocket(NamedTuple):
         return f"Dial{place_in(recording.lines.of(self.close.first))} failed (step {self.close.first})"
 
 
-def failed_dial(index: RunIndex, goroutine: int) -> Optional[UnconnectedSocket]:
+def failed_dial(index: RunIndex, goroutine: int) -> UnconnectedSocket | None:
     """The last Dial of a goroutine, if that Dial failed; None if a later Dial succeeded."""
     lines, calls = index.recording.lines, index.by_goroutine.get(goroutine, ())
     failed = [
@@ -40,7 +41,7 @@ def failed_dial(index: RunIndex, goroutine: int) -> Optional[UnconnectedSocket]:
     return None if is_later else UnconnectedSocket(failed[-1])
 
 
-def refused(recording: Recording, goid: int) -> Optional[FailedDial]:
+def refused(recording: Recording, goid: int) -> FailedDial | None:
     """A goroutine's last failed connect: the system refused it, or the goroutine gave it up. The result is
     None if the steps show a later connect that succeeded."""
     failed = recording.lines.failed_dials.get(goid, ())
@@ -89,7 +90,7 @@ def ended_sentence(recording: Recording, failed: FailedDial) -> list[str]:
 
 def refused_dials(recording: Recording) -> Iterator[FailedDial]:
     """The last refused connects of goroutines at a line of the program, one for each line and address."""
-    lines, seen = recording.lines, set[tuple[Optional[str], str]]()
+    lines, seen = recording.lines, set[tuple[str | None, str]]()
     for goid in sorted(lines.failed_dials):
         failed = refused(recording, goid)
         own = lines.stacks[failed.stack].own() if failed else None
@@ -131,7 +132,7 @@ def failed_dials(index: RunIndex) -> Iterator[Cause]:
         )
 
 
-def refusal_of(recording: Recording, dial: UnconnectedSocket, goroutine: int) -> Optional[FailedDial]:
+def refusal_of(recording: Recording, dial: UnconnectedSocket, goroutine: int) -> FailedDial | None:
     """Why a socket wasn't connected, if the recorder saw it: the last failed connect of its goroutine at the same
     line."""
     lines = recording.lines

@@ -2,10 +2,10 @@
 or ends before the line that flushes."""
 
 import re
-from typing import Iterable, Optional
+from collections.abc import Iterable
 
 from netrev.findings.source.functions import Lines, indent_of, range_of, source_of
-from netrev.findings.source.skipped_paths import Test, is_match, is_text, skipped_paths, that_stay, paths_text
+from netrev.findings.source.skipping_paths import Test, is_match, is_text, paths_text, skipped_paths, that_stay
 from netrev.recording.recording import Recording
 from netrev.recording.where import OF_THE_PROGRAM, Stack
 
@@ -96,7 +96,7 @@ def writes_to(writer: str, function: str) -> Test:
     return is_match(rf"\bFprint\w*\({name},|(?<![\w.]){name}\.Write\w*\(|\b(?:{encoders})\.Encode\(")
 
 
-def writes_through_a_buffer(recording: Recording, stack: Stack) -> Optional[bool]:
+def writes_through_a_buffer(recording: Recording, stack: Stack) -> bool | None:
     """Whether the function in which a goroutine reads writes through a buffer; None if the source isn't available."""
     own = stack.own()
     lines = source_of(recording, own[0].file) if own and own[0].of == OF_THE_PROGRAM else None

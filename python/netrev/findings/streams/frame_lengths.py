@@ -2,7 +2,7 @@
 the program's source that wrote the length and that read it."""
 
 import re
-from typing import NamedTuple, Optional
+from typing import NamedTuple
 
 from netrev.findings.source.functions import Lines, range_of, source_of
 from netrev.findings.source.statements import code_at
@@ -54,7 +54,7 @@ def is_of_a_body(recording: Recording, read: Call) -> bool:
     return own is not None and parsed is not None and parsed.file == own[0].file and parsed.number < own[0].line
 
 
-def length_line(recording: Recording, write: Call) -> Optional[Line]:
+def length_line(recording: Recording, write: Call) -> Line | None:
     """The line of a Write's function that writes a length: the length of a value, or a variable that contains the
     length."""
     if found := line_of(recording, write, LENGTH):
@@ -68,7 +68,7 @@ def length_line(recording: Recording, write: Call) -> Optional[Line]:
     return line_of(recording, write, re.compile(rf"(?:Uint\d*\(|\bbyte\().*\b(?:{'|'.join(sorted(names))})\b"))
 
 
-def line_of(recording: Recording, call: Call, pattern: "re.Pattern[str]") -> Optional[Line]:
+def line_of(recording: Recording, call: Call, pattern: "re.Pattern[str]") -> Line | None:
     """The line that matches a pattern, in the innermost function of the program that has such a line: the last match up
     to the call's line, else the last match in the function."""
     for frame in recording.lines.of(call.first).calls:

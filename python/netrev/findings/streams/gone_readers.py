@@ -1,11 +1,12 @@
 """Goroutines that were the only readers of a connection and have ended. The connection is still open, and more bytes
 may have come."""
 
-from typing import Iterator, NamedTuple, Optional
+from collections.abc import Iterator
+from typing import NamedTuple
 
+from netrev.findings.evidence.call_words import is_of_go, result_words, text_of_call
 from netrev.findings.evidence.ended_goroutines import left_by
 from netrev.findings.evidence.long_lines import long_line_sentence
-from netrev.findings.evidence.call_words import is_of_go, result_words, text_of_call
 from netrev.findings.finding import Cause
 from netrev.recording.call import CLOSE, Call, Outcome
 from netrev.run.index import RunIndex
@@ -17,7 +18,7 @@ class GoneReader(NamedTuple):
 
     read: Call
     ended: int
-    write: Optional[Call]
+    write: Call | None
 
     def says(self, index: RunIndex) -> list[str]:
         """The sentences about the reader."""
@@ -42,7 +43,7 @@ def gone_readers(index: RunIndex, position: int) -> Iterator[GoneReader]:
             yield reader
 
 
-def gone_reader(index: RunIndex, socket: int, position: int) -> Optional[GoneReader]:
+def gone_reader(index: RunIndex, socket: int, position: int) -> GoneReader | None:
     """The only goroutine that read from a socket, if it had ended by a position. The result is None if no such
     goroutine exists or if the socket was closed at this end."""
     other = index.recording.lines.peers.get(socket)
@@ -59,7 +60,7 @@ def gone_reader(index: RunIndex, socket: int, position: int) -> Optional[GoneRea
     return GoneReader(last, ended, next((write for write in writes if ended < write.first <= position), None))
 
 
-def ended_after(index: RunIndex, call: Call, position: int) -> Optional[int]:
+def ended_after(index: RunIndex, call: Call, position: int) -> int | None:
     """The step after which a call's goroutine ended, if it had ended by a position; None if it hadn't, or if the step
     is unknown."""
     lines = index.recording.lines

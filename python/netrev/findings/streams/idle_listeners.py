@@ -3,8 +3,8 @@ listener."""
 
 from collections import defaultdict
 
-from netrev.findings.evidence.loop_variables import shared_variables
 from netrev.findings.evidence.call_words import capital
+from netrev.findings.evidence.loop_variables import shared_variables
 from netrev.recording.call import OPEN
 from netrev.recording.waits import Name, of_names
 from netrev.recording.where import SourceCall as LineCall

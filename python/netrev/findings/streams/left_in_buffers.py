@@ -2,14 +2,16 @@
 is in a function that writes into a bufio.Writer without flushing it. The program's source shows this."""
 
 import re
+from collections.abc import Iterator
 from functools import lru_cache
-from typing import Iterator, NamedTuple
+from typing import NamedTuple
 
 from netrev.findings.source.functions import Lines, range_of, source_of
 from netrev.findings.source.package import HEAD, files_of, places_with
 from netrev.recording.call import Call
 from netrev.recording.recording import Recording
-from netrev.recording.where import OF_THE_PROGRAM, SourceCall as LineCall
+from netrev.recording.where import OF_THE_PROGRAM
+from netrev.recording.where import SourceCall as LineCall
 from netrev.run.index import MOVING, RunIndex
 
 WRITER = re.compile(

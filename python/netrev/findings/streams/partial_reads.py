@@ -3,11 +3,10 @@ function has a line that calls Read only once, with a slice of exactly the wante
 whatever has arrived."""
 
 import re
-from typing import Optional
 
+from netrev.findings.evidence.call_words import text_of_call
 from netrev.findings.evidence.read_sizes import read_sizes_of
 from netrev.findings.evidence.sizes import are_known, size_of
-from netrev.findings.evidence.call_words import text_of_call
 from netrev.findings.source.functions import Lines, range_of, source_of
 from netrev.recording.call import Call
 from netrev.recording.where import OF_THE_PROGRAM
@@ -70,7 +69,7 @@ def part_taken(index: RunIndex, call: Call) -> list[str]:
     return []
 
 
-def is_of_a_length(lines: Optional[Lines], within: Optional[range], number: int) -> bool:
+def is_of_a_length(lines: Lines | None, within: range | None, number: int) -> bool:
     """Whether a line reads into a slice of a length that the line itself names, or that was computed when the slice was
     made."""
     text = lines[number - 1].partition("//")[0] if lines else ""

@@ -1,11 +1,12 @@
 """A Read or a Write on a connection that wasn't accepted: the goroutine that accepts on the listener is in another
 call, or has ended."""
 
-from typing import Iterator, NamedTuple, Optional
+from collections.abc import Iterator
+from typing import NamedTuple
 
+from netrev.findings.evidence.call_words import place_of, text_of_call, waits_words
 from netrev.findings.evidence.ended_goroutines import ended_where, left_by
 from netrev.findings.evidence.need import Certainty, Need
-from netrev.findings.evidence.call_words import place_of, text_of_call, waits_words
 from netrev.findings.pools.balances import has_ended
 from netrev.recording.call import CLOSE, OPEN, Call
 from netrev.recording.waits import Name, waits_of
@@ -19,11 +20,11 @@ class Listener(NamedTuple):
     """A listener, its last Accept, and whether the connection was certainly made to this listener."""
 
     socket: int
-    accept: Optional[Call]
+    accept: Call | None
     is_sure: bool
 
 
-def unaccepted(index: RunIndex, call: Call, position: int) -> Optional[Need]:
+def unaccepted(index: RunIndex, call: Call, position: int) -> Need | None:
     """What a call needs if its connection's other end isn't known: the goroutine that should accept the connection,
     with a sentence about what that goroutine does instead. The result is None if the connection may have been
     accepted."""
@@ -67,7 +68,7 @@ def has_opened(index: RunIndex, socket: int, part: str) -> bool:
     return opened is not None and any(part in frame.function for frame in index.recording.lines.of(opened.first).calls)
 
 
-def listener_of(index: RunIndex, socket: int, position: int) -> Optional[Listener]:
+def listener_of(index: RunIndex, socket: int, position: int) -> Listener | None:
     """The listener to which a socket was connected: the listener with the address of the socket's other end, else the
     only open listener."""
     found = {listener: calls for listener in index.by_socket if (calls := accepts_at(index, listener))}

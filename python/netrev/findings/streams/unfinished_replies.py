@@ -3,14 +3,16 @@ the answer reads again. The module finds, in the program's source, the loop that
 that write nothing."""
 
 import re
-from typing import Iterator, NamedTuple
+from collections.abc import Iterator
+from typing import NamedTuple
 
-from netrev.findings.evidence.ended_goroutines import body_of
 from netrev.findings.evidence.call_words import place_of
+from netrev.findings.evidence.ended_goroutines import body_of
 from netrev.findings.source.functions import Lines, range_of, source_of
-from netrev.findings.source.skipped_paths import Way, is_text, skipped_paths, paths_text
+from netrev.findings.source.skipping_paths import Way, is_text, paths_text, skipped_paths
 from netrev.recording.call import Call
-from netrev.recording.where import OF_THE_PROGRAM, SourceCall as LineCall
+from netrev.recording.where import OF_THE_PROGRAM
+from netrev.recording.where import SourceCall as LineCall
 from netrev.run.index import RunIndex
 
 from .exchanges import reader_of

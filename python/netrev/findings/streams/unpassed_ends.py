@@ -2,10 +2,11 @@
 wrote to another. The relay reached the end of its input, had written everything, and never closed the other socket for
 writing, so the reader at that socket's other end hangs."""
 
-from typing import Iterator, NamedTuple, Optional
+from collections.abc import Iterator
+from typing import NamedTuple
 
-from netrev.findings.evidence.waiters import is_waiting
 from netrev.findings.evidence.call_words import is_of_go, text_of_call
+from netrev.findings.evidence.waiters import is_waiting
 from netrev.findings.pools.balances import has_ended
 from netrev.recording.call import Call, Outcome
 from netrev.recording.recording import Recording
@@ -47,7 +48,7 @@ def unpassed_ends(index: RunIndex) -> Iterator[UnpassedEnd]:
             yield UnpassedEnd(call, write, waits)
 
 
-def last_write_of_relay(index: RunIndex, end: Call) -> Optional[Call]:
+def last_write_of_relay(index: RunIndex, end: Call) -> Call | None:
     """A relay's last Write, if it came after the relay's last Read that got something. The relay's Reads are all on one
     socket, its Writes are all on another, and its last call is this Read. The result is None if the goroutine isn't
     such a relay."""
@@ -67,7 +68,7 @@ def is_over(index: RunIndex, end: Call) -> bool:
     return index.recording.length - end.last >= SETTLED or has_ended(index.recording, Name(end.goroutine))
 
 
-def reader_of(index: RunIndex, socket: int) -> Optional[Call]:
+def reader_of(index: RunIndex, socket: int) -> Call | None:
     """The Read at the other end of a socket, if it waits at the end of the recording."""
     other = index.other_end(socket)
     calls = () if other is None else index.by_socket.get(other, ())

@@ -1,10 +1,11 @@
 """Bytes that were written and that no goroutine reads: the socket that has them is open, and no Read on it is in
 progress."""
 
-from typing import Iterable, Iterator, NamedTuple
+from collections.abc import Iterable, Iterator
+from typing import NamedTuple
 
-from netrev.findings.evidence.sizes import are_known, moved_at
 from netrev.findings.evidence.call_words import is_of_go, text_of_call
+from netrev.findings.evidence.sizes import are_known, moved_at
 from netrev.recording.call import CLOSE, Call
 from netrev.recording.waits import Name
 from netrev.run.index import RunIndex

@@ -2,7 +2,7 @@
 goroutines whose results no goroutine took from a channel."""
 
 from collections import defaultdict
-from typing import Iterator
+from collections.abc import Iterator
 
 from netrev.findings.evidence.call_words import place_in, short
 from netrev.findings.finding import Cause
@@ -10,7 +10,8 @@ from netrev.findings.pools.made_channels import has_returned, is_local, returns_
 from netrev.recording.call import CLOSE, OPEN, Call
 from netrev.recording.goroutines import PUT, TOOK
 from netrev.recording.waits import listed, name_of_goid
-from netrev.recording.where import OF_THE_PROGRAM, SourceCall as LineCall
+from netrev.recording.where import OF_THE_PROGRAM
+from netrev.recording.where import SourceCall as LineCall
 from netrev.run.index import MOVING, RunIndex
 from netrev.text.plurals import counted
 

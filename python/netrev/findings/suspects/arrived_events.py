@@ -1,12 +1,13 @@
 """Goroutines that wait at the end of the recording for something that has already come. Each of them is parked for
 reading although bytes are unread or the peer has closed."""
 
-from typing import Iterator, NamedTuple
+from collections.abc import Iterator
+from typing import NamedTuple
 
 from netrev.recording.notes import Use
 
-from .suspect import Evidence, Suspect
 from .run import Run
+from .suspect import Evidence, Suspect
 
 
 class ParkedReader(NamedTuple):

@@ -2,7 +2,7 @@
 `explore` and `reduce` and for an older netrev. (For references and withdrawn deadlines, the rules use the notes
 directly.)"""
 
-from typing import Iterator, Optional
+from collections.abc import Iterator
 
 from netrev.recording.notes import AT, PARKED, By, Due
 from netrev.recording.suspect_list import LostWakeUp, OfDeadline, SuspectEntries
@@ -41,7 +41,7 @@ def passed_deadlines(notes: Notes) -> Iterator[OfDeadline]:
                     yield of_deadline(step, None, use.descriptor, side, due)
 
 
-def of_deadline(step: int, g: Optional[int], d: int, side: str, due: Due) -> OfDeadline:
+def of_deadline(step: int, g: int | None, d: int, side: str, due: Due) -> OfDeadline:
     """The effect of a deadline at a step."""
     setting, moved = due.setting, due.moved and By(due.moved.step, due.moved.goroutine)
     return OfDeadline("", step, g, d, side, By(setting.step, setting.goroutine), setting.mode, moved)

@@ -1,14 +1,15 @@
 """References that are still held at the end of the recording although their holders are gone, have stopped, or have
 gone on to other work."""
 
-from typing import Iterator, NamedTuple
+from collections.abc import Iterator
+from typing import NamedTuple
 
-from netrev.recording.notes import Hold
 from netrev.recording.cell_meanings import SIDES as NAMES
+from netrev.recording.notes import Hold
 from netrev.text.plurals import counted
 
-from .suspect import Evidence, Suspect, Weight
 from .run import TWICE, Run
+from .suspect import Evidence, Suspect, Weight
 
 BRIEF = 20  # holding a reference for at most this number of steps proves nothing
 

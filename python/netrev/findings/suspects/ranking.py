@@ -1,16 +1,17 @@
 """The suspects of a recording by all rules, worst first. Of several suspects with the same subject, only one is
 listed."""
 
-from typing import Iterable, NamedTuple
+from collections.abc import Iterable
+from typing import NamedTuple
 
 from netrev.recording.notes import Timeout
 from netrev.recording.recording import Recording
 from netrev.run.index import run_of
 from netrev.run.notes import Notes
 
-from .suspect import Suspect
 from .rule_loader import RULES, RULES_OF_CALLS, Rule
 from .run import Run
+from .suspect import Suspect
 
 
 class Ranked(NamedTuple):

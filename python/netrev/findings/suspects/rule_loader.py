@@ -1,14 +1,15 @@
 """Loads the rules from their folders. A module's docstring is `Name: definition`, and its `rule` returns the
 suspects."""
 
+from collections.abc import Callable, Iterator
 from importlib import import_module
 from pkgutil import iter_modules
 from types import ModuleType
-from typing import Callable, Iterator, NamedTuple
+from typing import NamedTuple
 
 from . import rules, rules_of_calls
-from .suspect import Suspect
 from .run import Run
+from .suspect import Suspect
 
 
 class Rule(NamedTuple):

@@ -3,7 +3,6 @@
 from bisect import bisect_right
 from collections import defaultdict
 from functools import cached_property
-from typing import Optional
 
 from netrev.machine.machine import INSIDE
 from netrev.recording.notes import AT, MANY, Use
@@ -72,7 +71,7 @@ class Run:
         """The step at which a goroutine got the status that it has at the end."""
         return self.notes.goroutines[g].since
 
-    def inside(self, use: Use, side: str, position: int) -> Optional[int]:
+    def inside(self, use: Use, side: str, position: int) -> int | None:
         """The goroutine that is inside the wait of a side; None if no goroutine waits there."""
         wait = next((candidate for candidate in reversed(use.waits[AT[side]]) if candidate.step <= position), None)
         if wait is None:

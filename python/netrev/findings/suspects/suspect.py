@@ -1,9 +1,10 @@
 """A rule's finding: a suspect with the step at fault, its sentence, its weight, and the queries to netrev that support
 it."""
 
+from collections.abc import Sequence
 from dataclasses import dataclass, field
 from enum import IntEnum
-from typing import NamedTuple, Optional, Sequence
+from typing import NamedTuple
 
 from netrev.findings.finding import Finding, Kind, place_of, sentences_of
 from netrev.recording.waits import Name
@@ -31,7 +32,7 @@ class Evidence(NamedTuple):
 
     position: int
     cell: str
-    value: Optional[str] = None
+    value: str | None = None
 
 
 @dataclass
@@ -41,9 +42,9 @@ class Suspect:
     step: int
     weight: int
     says: list[str]
-    goroutine: Optional[int] = None
-    descriptor: Optional[int] = None
-    socket: Optional[int] = None
+    goroutine: int | None = None
+    descriptor: int | None = None
+    socket: int | None = None
     listed: list[str] = field(default_factory=list)  # the lines of `netrev suspects` about the suspect
     evidence: list[Evidence] = field(default_factory=list)
     looks: list[str] = field(default_factory=list)

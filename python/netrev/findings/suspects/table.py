@@ -1,6 +1,7 @@
 """The table of `info suspects`."""
 
-from typing import Optional, Protocol, Sequence
+from collections.abc import Sequence
+from typing import Protocol
 
 from netrev.connection.output import Row, Table, Values
 from netrev.findings.finding import Finding, SuspectFindings, suspect_lines
@@ -9,8 +10,8 @@ from netrev.recording.recording import Recording
 from netrev.recording.where import OF_GO
 from netrev.text.plurals import counted
 
-from .suspect import Suspect
 from .ranking import Ranked, all_suspects_of
+from .suspect import Suspect
 
 MOST = 12  # the most suspects that are shown
 
@@ -30,7 +31,7 @@ def suspect_findings(answers: Answers, recording: Recording) -> SuspectFindings:
     return SuspectFindings(findings, _rest(recording, ranked, len(shown)))
 
 
-def suspects_table(answers: Answers, recording: Recording, ranked: Optional[Ranked] = None) -> Table:
+def suspects_table(answers: Answers, recording: Recording, ranked: Ranked | None = None) -> Table:
     """The table of the suspects, worst first, each with netrev's answers at the positions in question."""
     ranked = ranked or all_suspects_of(recording)
     shown = shown_of(ranked)

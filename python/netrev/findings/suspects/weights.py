@@ -5,8 +5,8 @@ from netrev.machine.machine import INSIDE
 from netrev.recording.recording import Recording
 from netrev.recording.suspect_list import OfDeadline
 
-from .suspect import HANGS, STILL_THERE, TIMED_OUT, WENT_ON, Suspect, Weight
 from .run import Run
+from .suspect import HANGS, STILL_THERE, TIMED_OUT, WENT_ON, Suspect, Weight
 
 METHODS = ("Read", "Pread", "ReadFrom", "ReadMsg", "Write", "Pwrite", "WriteTo", "WriteMsg", "Writev", "Accept")
 # Go's own calls that hold a lock over a system call, calls that hold only a reference, and calls that run a function of

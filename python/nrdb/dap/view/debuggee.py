@@ -1,8 +1,8 @@
 """The recording that an editor debugs: its session, and the facts about a position."""
 
+from collections.abc import Iterator
 from contextlib import contextmanager
 from pathlib import Path
-from typing import Iterator, Optional
 
 from netrev.connection.arriving_changes import ArrivingChanges
 from netrev.connection.collected_output import Collecting
@@ -23,7 +23,7 @@ from nrdb.prompt.answers import ANSWERS
 from .messages import UnanswerableError
 
 FAR = 10_000  # steps
-Maker = Optional[int]  # who makes a step: a goroutine's number, or None for the network and the clock
+Maker = int | None  # who makes a step: a goroutine's number, or None for the network and the clock
 
 
 class Debuggee:
@@ -43,11 +43,11 @@ class Debuggee:
         """The number of steps of the recording."""
         return self.recording.length
 
-    def step(self, number: int) -> Optional[Step]:
+    def step(self, number: int) -> Step | None:
         """The step with that number; None if no such step exists."""
         return self.recording.step_or_none(number)
 
-    def step_at(self, line: int) -> Optional[Step]:
+    def step_at(self, line: int) -> Step | None:
         """The step on a line, or else the first step after the line."""
         low, high = 1, self.length + 1
         while low < high:
@@ -92,7 +92,7 @@ class Debuggee:
         """Drops output that hasn't been shown."""
         self.printer.take()
 
-    def others_moved(self) -> Optional[int]:
+    def others_moved(self) -> int | None:
         """The new position, if another user has moved a shared session; None otherwise."""
         if not isinstance(self.session.netrev, Joined):
             return None
@@ -105,7 +105,7 @@ class Debuggee:
 
 @contextmanager
 def debuggee(
-    program: str, path: str, interrupts: Interrupts, address: Optional[tuple[str, int]] = None
+    program: str, path: str, interrupts: Interrupts, address: tuple[str, int] | None = None
 ) -> Iterator[Debuggee]:
     """Context with the session of the recording that is debugged: a session of its own, or the shared session at an
     address. Raises UnanswerableError if netrev or nrdb rejects the recording."""

@@ -2,9 +2,10 @@
 a step."""
 
 from bisect import bisect_left, bisect_right
+from collections.abc import Iterable
 from enum import Enum
 from functools import cached_property
-from typing import Iterable, NamedTuple, Optional
+from typing import NamedTuple
 
 from netrev.findings.suspects.ranking import suspects_of
 from netrev.messages import editors as texts
@@ -88,7 +89,7 @@ class Filters:
         """The positions at which the active filters stop, in ascending order."""
         return sorted({wrong.step - 1 for sort in self._set for wrong in self._all[sort]})
 
-    def nearest(self, position: int, forwards: bool) -> Optional[int]:
+    def nearest(self, position: int, forwards: bool) -> int | None:
         """The nearest later (or, backwards, earlier) position at which a filter stops."""
         positions = self._positions()
         at = bisect_right(positions, position) if forwards else bisect_left(positions, position) - 1

@@ -2,7 +2,6 @@
 bytes, `in 0` or `out 0`."""
 
 import base64
-from typing import Optional
 
 from netrev.connection.netrev import Netrev
 from netrev.messages import editors as texts
@@ -13,7 +12,7 @@ from .messages import Body, Request, UnanswerableError
 BUFFERS = ("in", "out")
 
 
-def reference_of(cell: str) -> Optional[str]:
+def reference_of(cell: str) -> str | None:
     """The buffer whose bytes a cell counts; None if the cell counts no bytes."""
     name, *number = cell.split()
     return cell if name in BUFFERS and number else None

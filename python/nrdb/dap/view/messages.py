@@ -3,7 +3,7 @@
 import json
 from dataclasses import dataclass, field
 from threading import Lock
-from typing import Any, BinaryIO, Optional
+from typing import Any, BinaryIO
 
 from netrev.errors import NetrevError
 from netrev.messages import editors as texts
@@ -61,14 +61,14 @@ class Request:
 class EditorStreams:
     """The two streams to the editor. Several threads may write messages, but only one thread may read them."""
 
-    def __init__(self, reader: BinaryIO, writer: BinaryIO, most: Optional[int] = None):
+    def __init__(self, reader: BinaryIO, writer: BinaryIO, most: int | None = None):
         self._reader, self._writer = reader, writer
         self.most = most  # the maximum number of bytes that may arrive in all, headers included
         self._arrived_bytes = 0
         self._sent, self._lock = 0, Lock()
         self.received = 0  # the bytes of all messages so far
 
-    def request(self) -> Optional[Request]:
+    def request(self) -> Request | None:
         """The next request; None if the editor has gone. Messages of other types are skipped."""
         while True:
             length = self._length()
@@ -82,7 +82,7 @@ class EditorStreams:
             if message.get("type") == "request":
                 return _request(message)
 
-    def _length(self) -> Optional[int]:
+    def _length(self) -> int | None:
         """The length in the header; None at the end of the input. Any other line ends the input, because a browser's
         request for a web page begins with such a line."""
         found: dict[bytes, bytes] = {}

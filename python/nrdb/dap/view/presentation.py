@@ -1,14 +1,14 @@
 """What an editor shows: goroutines as threads, their stacks, and cells as variables."""
 
+from collections.abc import Sequence
 from dataclasses import dataclass
 from pathlib import Path
-from typing import Optional, Sequence
 
 from netrev.connection.world import PositionValues
 from netrev.messages import editors as texts
+from netrev.recording.cell_meanings import status_words
 from netrev.recording.waits import Name, waits_of
 from netrev.recording.where import OF_THE_PROGRAM, SourceCall, Stack
-from netrev.recording.cell_meanings import status_words
 from netrev.run.index import run_of
 from netrev.text.plain import plain
 from netrev.text.vocabulary import CELLS, KINDS, Of, cell_of
@@ -78,7 +78,7 @@ class Every:
 Thing = Frame | Cells | Every
 
 
-def place_words(stack: Optional[Stack]) -> str:
+def place_words(stack: Stack | None) -> str:
     """The place of a stack in the program, as text."""
     own = stack.own() if stack else None
     return f" in {plain(own[0].function)} at {plain(own[0].place())}" if own else ""
@@ -283,12 +283,12 @@ class Looks:
         words = self._debuggee.session.words_of(cell, value)
         return f"{value}   ({words})" if words else value
 
-    def value(self, text: str) -> Optional[str]:
+    def value(self, text: str) -> str | None:
         """The value of the cell that a text names; None if the text names no cell."""
         cell = cell_of(text.split())
         return None if cell is None else str(self.cells([cell])[0]["value"])
 
-    def meaning(self, text: str) -> Optional[str]:
+    def meaning(self, text: str) -> str | None:
         """The meaning of a word of the recording under the mouse pointer, which may be a cell or a kind of step."""
         word = text.strip().strip('"')
         if word in KINDS:

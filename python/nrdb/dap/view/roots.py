@@ -3,7 +3,7 @@ in Go's folder."""
 
 import os
 from pathlib import Path
-from typing import NamedTuple, Optional
+from typing import NamedTuple
 
 SOURCES_OF_GO = "src"  # the subfolder in the folder of a Go release
 
@@ -12,9 +12,9 @@ class Roots(NamedTuple):
     """The folder of the program's files, to which their names are relative, and Go's folder, if known."""
 
     program: Path
-    go: Optional[Path] = None
+    go: Path | None = None
 
-    def path_of(self, file: str) -> Optional[Path]:
+    def path_of(self, file: str) -> Path | None:
         """The path of a file that the recorder named; None if the file doesn't exist on this machine."""
         return next((path for path in self._places(file) if os.path.isfile(path)), None)
 
@@ -29,7 +29,7 @@ class Roots(NamedTuple):
         return [self.program / file, *([self.go / SOURCES_OF_GO / file] if self.go else [])]
 
 
-def whole(path: Path) -> Optional[Path]:
+def whole(path: Path) -> Path | None:
     """A path with its links resolved; None if the path doesn't exist or its links form a loop."""
     try:
         return path.resolve()

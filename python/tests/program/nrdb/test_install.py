@@ -7,7 +7,6 @@ import shutil
 import subprocess
 import sys
 from pathlib import Path
-from typing import Optional
 
 import pytest
 
@@ -34,7 +33,7 @@ def printed(*words: object, **settings: str) -> str:
     return run.stdout
 
 
-def builder() -> Optional[str]:
+def builder() -> str | None:
     """A Python that can build packages without a network."""
     for python in (sys.executable, "/usr/bin/python3"):
         can = [python, "-c", "import setuptools, wheel, pip"]

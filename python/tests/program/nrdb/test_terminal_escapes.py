@@ -3,8 +3,9 @@ recording, in its header, or in the source lines beside a recording."""
 
 import json
 import re
+from collections.abc import Iterator
 from pathlib import Path
-from typing import Any, Iterator
+from typing import Any
 
 import pytest
 

@@ -6,9 +6,9 @@ also interrupt reads and writes repeatedly, as signals do; this needs a C compil
 """
 
 import subprocess
+from collections.abc import Sequence
 from functools import partial
 from pathlib import Path
-from typing import Sequence
 
 from tests.program.address_spaces import MEGABYTE, limit_memory
 from tests.program.support.case_files import FIRST

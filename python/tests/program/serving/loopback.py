@@ -298,7 +298,7 @@ def test_crowded(lives):
     """Callers step forwards at the same time: each free place of the journal gets one command."""
     for fronts, each, journal in ((8, 1, 7), (2, 100, 4096)):
         exchanged = share_lines(lives, [[[b"stepi"] * each + [b"quit"]]] * fronts, journal, windows=(1000,))
-        replies = [item.reply for front in exchanged for item in front if is_command(one.asked)]
+        replies = [item.reply for front in exchanged for item in front if is_command(item.asked)]
         placed = min(journal, fronts * each)
         places = [(f"at {place}",) for place in range(1, placed + 1)]
         expect("the replies", sorted(places + [(FULL,)] * (fronts * each - placed)), sorted(replies))

@@ -3,7 +3,7 @@ in one write."""
 
 import socket
 import subprocess
-from typing import Callable, Iterator
+from collections.abc import Callable, Iterator
 
 import pytest
 

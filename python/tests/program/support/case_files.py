@@ -6,9 +6,9 @@
 import os
 import socket
 import sys
+from collections.abc import Callable
 from dataclasses import dataclass
 from pathlib import Path
-from typing import Callable, Union
 
 from netrev.machine.observer import Observer
 from netrev.model.program import printed
@@ -64,7 +64,7 @@ class Function:
     skipped: bool = False
 
 
-def file_of(name: Union[str, bytes], text: bytes) -> Callable[[Path], bytes]:
+def file_of(name: str | bytes, text: bytes) -> Callable[[Path], bytes]:
     """A file with this name (which may be bytes) and this text."""
 
     def make(folder: Path) -> bytes:

@@ -18,9 +18,10 @@ from __future__ import annotations
 
 import re
 from collections import Counter
+from collections.abc import Sequence
 from dataclasses import dataclass
 from itertools import accumulate
-from typing import Any, NamedTuple, Optional, Sequence
+from typing import Any, NamedTuple
 
 from netrev.errors import NetrevError
 from netrev.machine.debugger import (
@@ -48,11 +49,11 @@ Choice = tuple[int, SharedState]  # a front, and the state after its next line
 class Clue(NamedTuple):
     """The constraints that a reply puts on its place in a history, whatever the earlier lines are."""
 
-    leads_to: Optional[int] = None  # the position after it
+    leads_to: int | None = None  # the position after it
     stands_at: frozenset[int] = frozenset()  # the positions at which it may have been answered, if there are few
     moves: bool = False  # whether it moves from there to another position
     shows: frozenset[Name] = frozenset()  # the marks and checkpoints that it shows to exist
-    takes_away: Optional[Name] = None  # the mark or checkpoint that it deletes
+    takes_away: Name | None = None  # the mark or checkpoint that it deletes
 
     @staticmethod
     def of(exchange: Exchange) -> Clue:
@@ -71,7 +72,7 @@ class Clue(NamedTuple):
         return Clue()
 
     @staticmethod
-    def of_move(sort: str, what: Any, position: str, edge: Optional[str], numbers: Optional[str]) -> Clue:
+    def of_move(sort: str, what: Any, position: str, edge: str | None, numbers: str | None) -> Clue:
         there = int(position)
         if sort == "step" and not edge:
             count, backwards = what
@@ -113,7 +114,7 @@ class Search:
         # counts of the remaining lines: those that must be placed; those that lead to a position, leave it, or are
         # answered there; and those that show a mark or checkpoint
         self.unplaced = 0
-        self.entries: Counter[Optional[int]] = Counter()
+        self.entries: Counter[int | None] = Counter()
         self.leaves: Counter[int] = Counter()
         self.stays: Counter[int] = Counter()
         self.shown: Counter[Name] = Counter()
@@ -156,7 +157,7 @@ class Search:
         first: int = min((self.known[front][self.taken[front]] for front in left), default=0)
         return [front for front in left if self.next_of(front).sent < first]
 
-    def behind(self, front: int) -> Optional[SharedState]:
+    def behind(self, front: int) -> SharedState | None:
         """The state after the front's next line if the line fits now, else None."""
         self.left -= 1
         if self.left < 0:
@@ -219,14 +220,14 @@ class Search:
         front, _ = choice
         return bool(self.clue_of(front).stands_at), -self.next_of(front).read
 
-    def find(self) -> Optional[list[int]]:
+    def find(self) -> list[int] | None:
         """The fronts in the order of a history; None if there is none."""
         if not self.fits_in:
             return None
         seen = set()
         # the points at which the search may continue: the count of lines taken, the state, and the choices left to try,
         # if they are known yet
-        forks: list[tuple[int, SharedState, Optional[list[Choice]]]] = [(0, self.state, None)]
+        forks: list[tuple[int, SharedState, list[Choice] | None]] = [(0, self.state, None)]
         while forks:
             length, state, choices = forks.pop()
             self.back_to(length, state)

@@ -6,8 +6,8 @@ numbers differ from run to run, any number matches any other. If a block shows n
 """
 
 import re
+from collections.abc import Iterator
 from dataclasses import dataclass, field
-from typing import Iterator
 
 from .sharing import ROOT
 

@@ -9,10 +9,10 @@ import re
 import shutil
 import subprocess
 import sys
+from collections.abc import Iterator, Sequence
 from dataclasses import dataclass, field
 from pathlib import Path
 from shlex import quote
-from typing import Iterator, Optional, Sequence
 
 from dev.recorder.fetching import here as fetched_go
 from netrev_go.go_command.toolchain import cache
@@ -116,7 +116,7 @@ class Room:
         return process.stdout.endswith(f"\n{cell} = {value}\n")
 
 
-def commands_of_go() -> Optional[Path]:
+def commands_of_go() -> Path | None:
     """The folder of the `go` command for recording, if that release is on this machine."""
     return fetched_go(RELEASE)
 

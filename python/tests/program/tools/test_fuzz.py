@@ -4,9 +4,10 @@ import io
 import signal
 import tempfile
 import threading
+from collections.abc import Callable
 from contextlib import ExitStack, contextmanager, redirect_stdout
 from pathlib import Path
-from typing import Any, Callable, cast
+from typing import Any, cast
 
 import pytest
 

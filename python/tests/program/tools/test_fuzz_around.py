@@ -99,7 +99,8 @@ def test_a_message_that_ends_the_adapter_is_found(monkeypatch: pytest.MonkeyPatc
 def test_an_answer_that_is_missing_is_found() -> None:
     request = [{"seq": 1, "command": "threads"}, {"seq": 2, "command": "disconnect"}, {"seq": 3, "command": "pause"}]
     result = [
-        {"seq": at, "type": "response", "request_seq": at, "command": item["command"]} for at, item in enumerate(request, 1)
+        {"seq": at, "type": "response", "request_seq": at, "command": item["command"]}
+        for at, item in enumerate(request, 1)
     ]
     assert editors.answers_wrong(request, result[:2]) == ""
     for wrong in (result[:1], result, result[1:2], [result[1], result[0]], None):

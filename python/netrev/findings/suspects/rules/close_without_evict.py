@@ -4,11 +4,11 @@ held its reference too long."""
 # A pause or a hold is too long if it lasts more than twice as long as the longest of its kind that ended in this
 # recording.
 
-from typing import Iterator
+from collections.abc import Iterator
 
-from netrev.findings.suspects.suspect import Suspect, Weight
 from netrev.findings.suspects.kept_references import kept
 from netrev.findings.suspects.run import Run
+from netrev.findings.suspects.suspect import Suspect, Weight
 
 
 def rule(run: Run) -> Iterator[Suspect]:

@@ -2,14 +2,14 @@
 set for both sides, or before the recording begins. Or the goroutine that set the deadline has since set the other
 side's deadline instead."""
 
-from typing import Iterator, Optional
+from collections.abc import Iterator
 
-from netrev.findings.suspects.suspect import Evidence, Suspect, Weight
 from netrev.findings.suspects.run import Run
+from netrev.findings.suspects.suspect import Evidence, Suspect, Weight
 from netrev.findings.suspects.weights import of_a_deadline
+from netrev.recording.cell_meanings import SIDES as NAMES
 from netrev.recording.notes import By, Use
 from netrev.recording.suspect_list import OfDeadline
-from netrev.recording.cell_meanings import SIDES as NAMES
 
 HABIT = 2  # a goroutine that sets one side alone this many times has a habit of setting that side
 
@@ -20,7 +20,7 @@ def rule(run: Run) -> Iterator[Suspect]:
             yield of_a_deadline(run, passed, found)
 
 
-def left_behind(run: Run, passed: OfDeadline, moved: By) -> Optional[Suspect]:
+def left_behind(run: Run, passed: OfDeadline, moved: By) -> Suspect | None:
     """The suspect about a deadline that passes, if a goroutine set the other side's deadline instead. `moved` is the
     first step that did so."""
     side, other, (set_at, g) = passed.side, "w" if passed.side == "r" else "r", passed.setting
@@ -47,7 +47,7 @@ def left_behind(run: Run, passed: OfDeadline, moved: By) -> Optional[Suspect]:
     return None
 
 
-def before_the_recording(run: Run, passed: OfDeadline, use: Use) -> Optional[Suspect]:
+def before_the_recording(run: Run, passed: OfDeadline, use: Use) -> Suspect | None:
     """The suspect for a deadline that was set before the recording begins. Since then, the other side's deadline must
     have been set alone, and more than once."""
     prelude, other = run.recording.lines.prelude, "w" if passed.side == "r" else "r"

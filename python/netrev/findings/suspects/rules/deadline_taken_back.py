@@ -1,12 +1,12 @@
 """Deadline taken back too soon: a deadline that has passed is moved before the goroutine that it woke has checked why it was woken."""
 
-from typing import Iterator, Optional
+from collections.abc import Iterator
 
-from netrev.findings.suspects.suspect import Evidence, Suspect, Weight
 from netrev.findings.suspects.run import Run
+from netrev.findings.suspects.suspect import Evidence, Suspect, Weight
 from netrev.findings.suspects.weights import of_a_goroutine
-from netrev.recording.notes import Passing, Setting, Use
 from netrev.recording.cell_meanings import SIDES as NAMES
+from netrev.recording.notes import Passing, Setting, Use
 
 # statuses inside a wait, before the goroutine checks why it was woken
 NOT_LOOKED = ("armed", "parking", "swapping", "checking")
@@ -23,7 +23,7 @@ def rule(run: Run) -> Iterator[Suspect]:
                         yield of_a_goroutine(run, suspect_of(run, use, side, passing, setting, goroutine))
 
 
-def not_looked(run: Run, use: Use, side: str, position: int) -> Optional[int]:
+def not_looked(run: Run, use: Use, side: str, position: int) -> int | None:
     """The goroutine that was woken by the deadline of its side and hasn't checked why yet; None if no goroutine is in
     that state."""
     goroutine, word = run.inside(use, side, position), run.changes.value(f"{side}g {use.descriptor}", position)

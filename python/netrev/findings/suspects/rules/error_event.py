@@ -1,10 +1,10 @@
 """Error event on a reused descriptor: an event with an error comes for a descriptor that was another socket's before,
 unless Go compared the event's tag, as it does from 1.21 on."""
 
-from typing import Iterator
+from collections.abc import Iterator
 
-from netrev.findings.suspects.suspect import Evidence, Suspect, Weight
 from netrev.findings.suspects.run import Run
+from netrev.findings.suspects.suspect import Evidence, Suspect, Weight
 
 
 def rule(run: Run) -> Iterator[Suspect]:

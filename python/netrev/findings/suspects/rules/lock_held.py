@@ -3,10 +3,10 @@ or SendFile holds over a system call are left out."""
 
 # too long: more than twice the longest pause that ended in this recording
 
-from typing import Iterator
+from collections.abc import Iterator
 
-from netrev.findings.suspects.suspect import Evidence, Suspect, Weight
 from netrev.findings.suspects.run import Run
+from netrev.findings.suspects.suspect import Evidence, Suspect, Weight
 from netrev.findings.suspects.weights import of_a_holder
 from netrev.recording.cell_meanings import SIDES as NAMES
 

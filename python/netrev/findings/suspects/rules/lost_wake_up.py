@@ -2,17 +2,17 @@
 answered EAGAIN since then; netrev lists these goroutines. Or a `pollreset` discarded an event, and the goroutine is
 about to park for reading without a read in between."""
 
-from typing import Iterator, Optional
+from collections.abc import Iterator
 
 from netrev.findings.suspects.arrived_events import waits_after_arrival
-from netrev.findings.suspects.suspect import Evidence, Suspect, Weight
 from netrev.findings.suspects.run import Run
+from netrev.findings.suspects.suspect import Evidence, Suspect, Weight
 from netrev.findings.suspects.weights import is_accepting, is_without_tries, of_a_goroutine
 from netrev.recording.notes import AT, Taking, Use, Wait
 from netrev.recording.suspect_list import LostWakeUp
 
 # the goroutine that waits, its descriptor, the step that took the readiness, and the side
-Taken = tuple[Optional[int], Optional[int], int, str]
+Taken = tuple[int | None, int | None, int, str]
 BUFFERS, WAITS = {"r": "in", "w": "out"}, {"r": "reading", "w": "writing"}
 
 

@@ -2,10 +2,10 @@
 
 # too long: more than twice the longest pause at that place that ended in this recording
 
-from typing import Iterator
+from collections.abc import Iterator
 
-from netrev.findings.suspects.suspect import Evidence, Suspect, Weight
 from netrev.findings.suspects.run import Run
+from netrev.findings.suspects.suspect import Evidence, Suspect, Weight
 from netrev.text.plurals import counted
 
 

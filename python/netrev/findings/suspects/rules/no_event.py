@@ -1,10 +1,10 @@
 """No event: a goroutine is parked for reading, bytes are unread or the peer has closed, and no event has followed."""
 
-from typing import Iterator
+from collections.abc import Iterator
 
 from netrev.findings.suspects.arrived_events import waits_after_arrival
-from netrev.findings.suspects.suspect import Evidence, Suspect, Weight
 from netrev.findings.suspects.run import Run
+from netrev.findings.suspects.suspect import Evidence, Suspect, Weight
 
 JUST_NOW = 3  # bytes or a close that came within this many steps of the end may still get their event
 

@@ -1,11 +1,11 @@
 """Stale event: a goroutine is parked for reading, bytes are unread or the peer has closed, and an event came with an
 old tag."""
 
-from typing import Iterator
+from collections.abc import Iterator
 
 from netrev.findings.suspects.arrived_events import waits_after_arrival
-from netrev.findings.suspects.suspect import Evidence, Suspect, Weight
 from netrev.findings.suspects.run import Run
+from netrev.findings.suspects.suspect import Evidence, Suspect, Weight
 
 
 def rule(run: Run) -> Iterator[Suspect]:

@@ -1,9 +1,9 @@
 """Write after CloseWrite: a goroutine writes to a socket whose write side was shut before."""
 
-from typing import Iterator
+from collections.abc import Iterator
 
-from netrev.findings.suspects.suspect import Evidence, Suspect, Weight
 from netrev.findings.suspects.run import Run
+from netrev.findings.suspects.suspect import Evidence, Suspect, Weight
 
 
 def rule(run: Run) -> Iterator[Suspect]:

@@ -1,12 +1,12 @@
 """Both ends write: calls that don't end wait for one another, and one of them is a Write. The Write waits for a read at
 the other end, and the goroutine that would read there waits too."""
 
-from typing import Iterator
+from collections.abc import Iterator
 
 from netrev.findings.evidence.call_words import text_of_call
 from netrev.findings.hangs.wait_graph import Certainty, Hang, graph_at
-from netrev.findings.suspects.suspect import Evidence, Suspect, Weight
 from netrev.findings.suspects.run import Run
+from netrev.findings.suspects.suspect import Evidence, Suspect, Weight
 from netrev.recording.call import Call
 
 

@@ -1,12 +1,12 @@
 """Bytes thrown away: a Read got some of the bytes that it asked for, the Read for the rest timed out, and the
 goroutine's next Read asks for all of them again, so the first bytes are lost."""
 
-from typing import Iterator
+from collections.abc import Iterator
 
-from netrev.findings.evidence.read_sizes import ReadSizes, read_sizes_of
 from netrev.findings.evidence.call_words import is_of_go, text_of_call
-from netrev.findings.suspects.suspect import Evidence, Suspect, Weight
+from netrev.findings.evidence.read_sizes import ReadSizes, read_sizes_of
 from netrev.findings.suspects.run import Run
+from netrev.findings.suspects.suspect import Evidence, Suspect, Weight
 from netrev.recording.call import Call, Outcome
 from netrev.text.plurals import counted
 

@@ -1,11 +1,11 @@
 """End not passed on: a goroutine copied one connection to another, reached the end of the stream, and never closed the
 destination for writing, so the Read at the destination's other end hangs."""
 
-from typing import Iterator
+from collections.abc import Iterator
 
 from netrev.findings.streams.unpassed_ends import UnpassedEnd, unpassed_ends
-from netrev.findings.suspects.suspect import Evidence, Suspect, Weight
 from netrev.findings.suspects.run import Run
+from netrev.findings.suspects.suspect import Evidence, Suspect, Weight
 
 
 def rule(run: Run) -> Iterator[Suspect]:

@@ -1,12 +1,12 @@
 """Left open: the other end of a connection was closed, 50 steps or more before the recording ends, and no goroutine
 closes this end or is in a call on it that would return EOF."""
 
-from typing import Iterator
+from collections.abc import Iterator
 
 from netrev.findings.causes.leftovers import left_open
 from netrev.findings.finding import Cause
-from netrev.findings.suspects.suspect import Evidence, Suspect, Weight
 from netrev.findings.suspects.run import Run
+from netrev.findings.suspects.suspect import Evidence, Suspect, Weight
 
 SINCE = 50
 

@@ -1,11 +1,11 @@
 """Timeout again and again: 20 calls in a row, by one goroutine and at one side of a connection, time out at the same
 deadline, and no goroutine sets another deadline."""
 
-from typing import Iterator
+from collections.abc import Iterator
 
 from netrev.findings.evidence.call_words import is_of_go, text_of_call
-from netrev.findings.suspects.suspect import Evidence, Suspect, Weight
 from netrev.findings.suspects.run import SIDES, Run
+from netrev.findings.suspects.suspect import Evidence, Suspect, Weight
 from netrev.recording.call import Call, Outcome
 from netrev.run.index import RunIndex
 

@@ -1,11 +1,11 @@
 """Two readers: a goroutine's Read had to wait for the lock of another goroutine's Read on the same connection, and both
 got bytes, so chance decides which goroutine gets which bytes. Listeners and datagram sockets are left out."""
 
-from typing import Iterator
+from collections.abc import Iterator
 
 from netrev.findings.evidence.call_words import is_of_go, text_of_call
-from netrev.findings.suspects.suspect import Evidence, Suspect, Weight
 from netrev.findings.suspects.run import Run
+from netrev.findings.suspects.suspect import Evidence, Suspect, Weight
 from netrev.recording.call import Call
 from netrev.run.index import RunIndex, went_well
 

@@ -5,7 +5,7 @@ from __future__ import annotations
 import json
 import os
 import subprocess
-from typing import Any, BinaryIO, Optional, cast
+from typing import Any, BinaryIO, cast
 
 from netrev.errors import NetrevError
 from tests.program.support.sharing import NETREV
@@ -53,7 +53,7 @@ class Client:
         self._writer.write(b"Content-Length: %d\r\n\r\n%s" % (len(data), data))
         self._writer.flush()
 
-    def message(self) -> Optional[Body]:
+    def message(self) -> Body | None:
         """The next message, with its form checked; None if the adapter has ended."""
         head = self._reader.readline()
         if not head:

@@ -1,7 +1,8 @@
 """The forms of an adapter's messages in the Debug Adapter Protocol's published specification: their required fields, optional fields (`?`),
 and types. A message has no other fields."""
 
-from typing import Any, Iterable
+from collections.abc import Iterable
+from typing import Any
 
 Form = Any  # a type, a list of one form, a tuple of forms of which one fits, or an object's fields by name
 

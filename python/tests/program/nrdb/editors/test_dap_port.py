@@ -5,9 +5,10 @@ import os
 import socket
 import struct
 import subprocess
+from collections.abc import Iterator
 from contextlib import ExitStack, closing, suppress
 from pathlib import Path
-from typing import Any, Iterator
+from typing import Any
 
 import pytest
 

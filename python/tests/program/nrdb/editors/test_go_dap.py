@@ -8,7 +8,6 @@ import subprocess
 import tempfile
 from functools import lru_cache
 from pathlib import Path
-from typing import Optional
 
 import pytest
 
@@ -62,7 +61,7 @@ def messages_of_a_session() -> list[Body]:
     messages: list[Body] = []
     receive = Client.message
 
-    def keep(client: Client) -> Optional[Body]:
+    def keep(client: Client) -> Body | None:
         message = receive(client)
         if message is not None:
             messages.append(message)

@@ -1,6 +1,6 @@
 """A browser for the tests of pages."""
 
-from typing import Iterator
+from collections.abc import Iterator
 
 import pytest
 

@@ -7,9 +7,10 @@ import shutil
 import struct
 import xml.etree.ElementTree as ET
 from base64 import b64decode
+from collections.abc import Sequence
 from itertools import accumulate
 from pathlib import Path
-from typing import Any, Sequence
+from typing import Any
 
 import pytest
 

@@ -3,8 +3,9 @@ each text has enough contrast, light and dark. The tests check the styles that t
 Skipped without chromium (Debian: apt-get install chromium)."""
 
 import tempfile
+from collections.abc import Iterator
 from pathlib import Path
-from typing import Any, Iterator
+from typing import Any
 
 import pytest
 

@@ -127,4 +127,6 @@ def test_waits_are_found_and_chosen(reports: dict[str, Any]) -> None:
 def test_goroutines_without_steps_have_rows_with_words(reports: dict[str, Any]) -> None:
     assert reports["kinds"] == ["goid 13 within.func1", "goid 21 (*room).serve"]
     assert "waits outside of sockets" in reports["heads"]
-    assert re.match(r"goid 21 \(\*room\)\.serve: waits for a mutex\s+since 329, to the end\s", reports["tip"]), reports["tip"]
+    assert re.match(r"goid 21 \(\*room\)\.serve: waits for a mutex\s+since 329, to the end\s", reports["tip"]), reports[
+        "tip"
+    ]

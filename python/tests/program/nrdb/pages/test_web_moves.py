@@ -15,7 +15,7 @@ from tests.program.nrdb.common.support import EXAMPLES
 from tests.program.nrdb.common.web_support import Web
 from tests.program.support.sharing import ROOT
 
-from .test_web_page import says, current_position
+from .test_web_page import current_position, says
 
 pytestmark = pytest.mark.together
 

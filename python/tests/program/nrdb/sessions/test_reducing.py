@@ -8,8 +8,8 @@ from typing import Any
 import pytest
 
 from dev.fuzz.generators.injections import Bug, Traffic
-from netrev.findings.suspects.suspect import Suspect
 from netrev.findings.suspects.ranking import suspects_of
+from netrev.findings.suspects.suspect import Suspect
 from netrev.recording.recording import Recording
 from netrev.timeline.page_contents import MOST as MOST_IN_A_PAGE
 from tests.program.nrdb.common.support import EXAMPLES, HUNTS, ROOT, netrev, nrdb
