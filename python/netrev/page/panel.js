@@ -22,7 +22,7 @@ function fillStory() {
   const story = storyNow();
   if (!story) return;
   const list = element("ol", undefined, "story");
-  story.steps.forEach((step, at) => list.append(storyStep(step, story.texts[at], story.places[at] || lineAt(step))));
+  story.steps.forEach((step, at) => list.append(storyStep(story, step, story.texts[at])));
   $("panel").append(element("h2", story.rule), list);
   const looks = element("p", "look ");
   for (const line of story.looks) looks.append(pushed(line, () => lookAt(line), LIVE ? "asks the session" : "copies the line for nrdb's prompt"), " ");
@@ -30,11 +30,12 @@ function fillStory() {
   $("panel").append(looks);
 }
 
-function storyStep(step, text, place) {
-  const item = element("li");
+function storyStep(story, step, text) {
+  const item = element("li"), line = story.lines.find((one) => one.startsWith(`step ${step},`)) || "";
+  const [, where = ""] = /^step \d+, \S+: (.*)$/.exec(line) || [];
   item.append(pushed(`${step}: ${text}`, () => choose(step, true)));
   if (step === V.chosen) item.className = "chosen";
-  if (place) item.append(element("small", place));
+  if (where || lineAt(step)) item.append(element("small", where || lineAt(step)));
   return item;
 }
 

@@ -81,16 +81,14 @@ def story_data(recording: Recording, rule: str, step: int, says: list[str], look
     """A story with these steps."""
     steps = steps_data(recording, of)
     lines = [
-        f"step {number}, {recording.step(number).kind}: {place}"
-        for number, place in zip(steps["steps"], steps["places"])
-        if place
+        f"step {number}, {recording.step(number).kind}: {words}"
+        for number in steps["steps"]
+        if (words := recording.lines.words(number))
     ]
     story = {"rule": rule, "step": step, "says": " ".join(says), "netrev": [], "lines": lines, "looks": looks}
     return {**story, **steps}
 
 
 def steps_data(recording: Recording, steps: set[int]) -> Data:
-    """The steps of a story, in order, with their texts and the program's lines; empty if unknown."""
-    numbers = sorted(steps)
-    texts, places = [str(recording.step(step)) for step in numbers], list(map(recording.lines.words, numbers))
-    return {"steps": numbers, "texts": texts, "places": places}
+    """The steps of a story, in order, and their texts."""
+    return {"steps": sorted(steps), "texts": [str(recording.step(step)) for step in sorted(steps)]}
