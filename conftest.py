@@ -34,16 +34,16 @@ def pytest_addoption(parser: pytest.Parser) -> None:
 
 
 def pytest_configure() -> None:
-    # A shell's background jobs ignore SIGINT and SIGQUIT, and so do the processes that they start. Without these lines, the tests
-    # of Ctrl-C and Ctrl-\ would then fail.
+    # A shell's background jobs ignore SIGINT and SIGQUIT, and so do the processes that they start. Without these lines,
+    # the tests of Ctrl-C and Ctrl-\ would then fail.
     signal.signal(signal.SIGINT, signal.default_int_handler)
     signal.signal(signal.SIGQUIT, signal.SIG_DFL)
 
 
 def pytest_collection_modifyitems(config: pytest.Config, items: list[pytest.Item]) -> None:
-    """Long tests come first, and then modules whose tests run together: the other tests fill the time in which processes
-    would wait for them. Tests that need the built program are skipped if it isn't built. Tests that must run alone are
-    skipped under `-n`."""
+    """Long tests come first, and then modules whose tests run together: the other tests fill the time in which
+    processes would wait for them. Tests that need the built program are skipped if it isn't built. Tests that must run
+    alone are skipped under `-n`."""
     items.sort(key=lambda item: [item.get_closest_marker(name) is None for name in ("long", "together")])
     for item in items:
         if PLAYED in item.path.parents and not IS_BUILT:

@@ -1,7 +1,7 @@
 """Compiles a netrev without its proofs, and keeps it in out/look as long as its sources stay the same.
 
-`rt try` compiles netrev in a minute or two, runs it in a temporary folder, and keeps nothing. So the program is copied while it runs: it is
-given a named pipe to check, and waits for a writer that never comes.
+`rt try` compiles netrev in a minute or two, runs it in a temporary folder, and keeps nothing. So the program is copied
+while it runs: it is given a named pipe to check, and waits for a writer that never comes.
 """
 
 from __future__ import annotations
@@ -64,7 +64,8 @@ def kit_name() -> str:
 
 
 def source_sum(kit: str) -> str:
-    """A checksum of the toolchain's name, and of the names and contents of all files from which the program is compiled."""
+    """A checksum of the toolchain's name, and of the names and contents of all files from which the program is
+    compiled."""
     folders = [*ROOT.glob("crates/*/src"), *ROOT.glob("crates/*/specs")]
     files = [ROOT / "crates.txt", ROOT / "HANDLES", *(path for folder in folders for path in folder.rglob("*"))]
     total = hashlib.sha256(kit.encode())
@@ -101,8 +102,8 @@ def exclusive(path: Path, say: Say) -> Iterator[None]:
 
 
 def name_it(program: Path) -> None:
-    """Gives the program the additional name out/look/netrev, for users: NETREV=out/look/netrev. It is a hard link, because `rt ci` refuses
-    a tree with symbolic links."""
+    """Gives the program the additional name out/look/netrev, for users: NETREV=out/look/netrev. It is a hard link,
+    because `rt ci` refuses a tree with symbolic links."""
     new = KEPT / "new"
     new.unlink(missing_ok=True)
     os.link(program, new)
@@ -229,8 +230,8 @@ def is_below(process: int, ancestor: int, parents: dict[int, int]) -> bool:
 
 
 def program_checking(folder: Path, pipe: str) -> Path | None:
-    """The program of a process, if it is checking the pipe. The toolchain starts it with its own loader, so the program is the word before
-    `check`."""
+    """The program of a process, if it is checking the pipe. The toolchain starts it with its own loader, so the program
+    is the word before `check`."""
     try:
         *words, check, last = map(os.fsdecode, (folder / "cmdline").read_bytes().split(b"\0")[:-1])
         if not words or (check, last) != (CHECK, pipe):

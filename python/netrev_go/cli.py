@@ -30,7 +30,8 @@ KNOWN: list[object] = []  # data of the last converted log; kept until exit, bec
 
 
 def flags(go: Go, words: list[str]) -> list[str]:
-    """The flags that make Go's command record. They disable inlining into the named packages, so that source lines are exact."""
+    """The flags that make Go's command record. They disable inlining into the named packages, so that source lines are
+    exact."""
     if any(word.lstrip("-").startswith("overlay") for word in words if word.startswith("-")) or "-overlay" in go.flags:
         raise RecorderError(messages.OVERLAY_IS_TAKEN)
     own = any(word.lstrip("-").startswith("gcflags") for word in words if word.startswith("-"))
@@ -38,7 +39,8 @@ def flags(go: Go, words: list[str]) -> list[str]:
 
 
 def record(options: argparse.Namespace, go: Go) -> int:
-    """Runs Go's command, and makes recordings of the programs that ran. Returns Go's own status, unless an option asks for another."""
+    """Runs Go's command, and makes recordings of the programs that ran. Returns Go's own status, unless an option asks
+    for another."""
     words = options.words_of_go
     once = ["-count=1"] if options.command == "test" else []
     command = [go.program, options.command, *relative_to_folder(words, [*flags(go, words), *once])]

@@ -147,7 +147,8 @@ class Recordings:
             return None
 
     def made(self, read: ReadLog | None, name: pathlib.Path, test: Ran | None, hear: Hear) -> Conversion | None:
-        """The result of a recording; None, with a message, if it can't be written. `hear` receives the lines as soon as they are known."""
+        """The result of a recording; None, with a message, if it can't be written. `hear` receives the lines as soon as
+        they are known."""
         if read is None:
             return None
         failed = test is None or test.is_red()
@@ -162,8 +163,8 @@ class Recordings:
         return outcome
 
     def explore(self, seconds: float) -> bool:
-        """Runs other schedules of the recordings, for this many seconds in total; returns whether there are findings. A finding is a
-        possible failure: it didn't occur in any run."""
+        """Runs other schedules of the recordings, for this many seconds in total; returns whether there are findings. A
+        finding is a possible failure: it didn't occur in any run."""
         recorded = [result for result in self.told.values() if result.recording and result.accepted]
         for result in recorded:
             result.possible = findings(str(result.recording), seconds / len(recorded))
@@ -203,8 +204,8 @@ def notes_in(printed: str) -> list[str]:
 
 
 def findings(recording: str, seconds: float) -> list[str]:
-    """nrdb's findings in other schedules within this many seconds, line by line. If the search fails or doesn't end, the result says
-    so."""
+    """nrdb's findings in other schedules within this many seconds, line by line. If the search fails or doesn't end,
+    the result says so."""
     words = [sys.executable, str(PACKAGES), "nrdb", "--json", "--explore", file_word(recording)]
     with subprocess.Popen(
         words, env=nrdb_environment(), text=True, stdin=subprocess.DEVNULL, stdout=subprocess.PIPE,

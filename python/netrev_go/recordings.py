@@ -23,8 +23,8 @@ from .steps.conversion import RecordingOptions, convert
 
 
 def say(lines: list[str], stream: TextIO | None = None) -> None:
-    """Prints these lines to standard error, because standard output belongs to Go and the program, or to another stream. If printing fails,
-    later lines are dropped and everything else continues."""
+    """Prints these lines to standard error, because standard output belongs to Go and the program, or to another
+    stream. If printing fails, later lines are dropped and everything else continues."""
     to = stream or sys.stderr
     try:
         print("\n".join(lines), file=to, flush=True)
@@ -91,7 +91,8 @@ def report_unrecorded(folder: pathlib.Path) -> bool:
 
 
 def leave(folder: pathlib.Path, keep: bool, is_whole: bool, running: list[pathlib.Path]) -> None:
-    """Removes a run's logs, unless the user wants them, a recording is missing, or some of these programs are still running."""
+    """Removes a run's logs, unless the user wants them, a recording is missing, or some of these programs are still
+    running."""
     logs = logs_in(folder)
     if keep or logs and not is_whole:
         release(folder)
@@ -147,8 +148,8 @@ class RecordingMaker:
         leave(self._folder, keep, self._is_whole, self._running)
 
     def _make(self, base: pathlib.Path, options: RecordingOptions, count: int) -> tuple[bool, int]:
-        """Makes a recording of each log in which sockets were opened; returns whether netrev accepts all, and how many recordings have this
-        name."""
+        """Makes a recording of each log in which sockets were opened; returns whether netrev accepts all, and how many
+        recordings have this name."""
         ok, before, without = True, count, 0
         for log in logs_in(self._folder):
             name, saying = numbered(base, count + 1), ReportPrinter([])

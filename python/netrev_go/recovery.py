@@ -1,4 +1,5 @@
-"""`netrev-go recover`: makes recordings of runs whose netrev-go was killed. Other commands print a line that suggests this command."""
+"""`netrev-go recover`: makes recordings of runs whose netrev-go was killed. Other commands print a line that suggests
+this command."""
 
 from __future__ import annotations
 

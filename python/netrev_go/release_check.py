@@ -1,5 +1,6 @@
-"""Checks whether the installed Go can be recorded by recording a small program with each kind of step, and comparing each answer and each
-lock word. A rule may fit, and the changed file may compile, although Go never runs the changed code. This trial detects that."""
+"""Checks whether the installed Go can be recorded by recording a small program with each kind of step, and comparing
+each answer and each lock word. A rule may fit, and the changed file may compile, although Go never runs the changed
+code. This trial detects that."""
 
 from __future__ import annotations
 
@@ -47,7 +48,8 @@ class Trial:
 
 
 def trial(go: Go) -> Trial:
-    """Records the small program on one processor and on four, and returns the result. If the trial succeeded, stores the result."""
+    """Records the small program on one processor and on four, and returns the result. If the trial succeeded, stores
+    the result."""
     kept_in = overlay(go).parent / KEPT
     with tempfile.TemporaryDirectory(prefix="netrev-trial-") as name:
         tried_out = tried_in(go, pathlib.Path(name))
@@ -158,7 +160,8 @@ def kept(go: Go) -> Trial | None:
 
 
 def ready(go: Go) -> pathlib.Path:
-    """The overlay of a Go that can be recorded. Each Go is tried only once; for an untested release, the result is printed."""
+    """The overlay of a Go that can be recorded. Each Go is tried only once; for an untested release, the result is
+    printed."""
     folder = overlay(go)
     prepare_line_reader(go)
     before = kept(go)

@@ -1,5 +1,5 @@
-"""Makes recordings of a running server: at once, or when one of its calls has waited for a long time. Two small tables of the log say
-which goroutines wait on sockets, and since when, so frequent checks are cheap."""
+"""Makes recordings of a running server: at once, or when one of its calls has waited for a long time. Two small tables
+of the log say which goroutines wait on sockets, and since when, so frequent checks are cheap."""
 
 from __future__ import annotations
 
@@ -30,15 +30,15 @@ from .steps.where import own_line
 
 LOOKS = 10  # checks within the time that a call may wait
 OFTENEST, SELDOMEST = 0.05, 1.0  # seconds between two checks
-# The words of a row in the table of descriptors: the lock word's address, and for each side the place, goroutine, stack and start of a
-# wait.
+# The words of a row in the table of descriptors: the lock word's address, and for each side the place, goroutine, stack
+# and start of a wait.
 AT_A_WORD, SIDES, SIDE_WORDS = 1, 2, 4
 ACCEPTS = "internal/poll.(*FD).Accept"
 
 
 class SocketWait(NamedTuple):
-    """A goroutine that waits on a socket: Go's number, the side, the stack (0 if unknown), when the wait began by Go's clock, and the
-    address of the socket's lock word."""
+    """A goroutine that waits on a socket: Go's number, the side, the stack (0 if unknown), when the wait began by Go's
+    clock, and the address of the socket's lock word."""
 
     goroutine: int
     what: str

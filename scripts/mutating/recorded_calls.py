@@ -1,8 +1,8 @@
 """A pytest plugin that records which functions each test calls, also in the processes that it starts.
 
-For each test it writes a line of JSON to the file that NETREV_CALLS names: the test, its seconds, and the functions, each as `FILE|NAME`
-with the file relative to the current folder. Functions that are called while a module's first test is set up count for all tests of
-the module."""
+For each test it writes a line of JSON to the file that NETREV_CALLS names: the test, its seconds, and the functions,
+each as `FILE|NAME` with the file relative to the current folder. Functions that are called while a module's first test
+is set up count for all tests of the module."""
 
 from __future__ import annotations
 

@@ -45,7 +45,8 @@ def changed_codes(file: str, before: str, behind: str) -> dict[tuple[str, int, s
 
 
 def put_in(file: str, before: str, behind: str) -> bool:
-    """Gives the loaded functions the mutant's code. Returns True if a function got it, or if the module isn't loaded yet."""
+    """Gives the loaded functions the mutant's code. Returns True if a function got it, or if the module isn't loaded
+    yet."""
     if not any(getattr(module, "__file__", None) == file for module in list(sys.modules.values())):
         return True
     changed = changed_codes(file, before, behind)

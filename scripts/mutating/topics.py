@@ -1,7 +1,7 @@
 """The tests to try against a mutant: the tests that call the changed function, the fastest first.
 
-One run of the tests records what each of them calls (`recorded_calls.py`); a test file that has changed since then is run
-again. `topics.txt` names the tests of the recorder's Go, whose calls can't be recorded."""
+One run of the tests records what each of them calls (`recorded_calls.py`); a test file that has changed since then is
+run again. `topics.txt` names the tests of the recorder's Go, whose calls can't be recorded."""
 
 from __future__ import annotations
 
@@ -56,8 +56,8 @@ class Topics:
                 self._of_files[file].append(test)
 
     def tests_of(self, mutant: Mutant) -> list[Test]:
-        """The tests for a mutant of Python code, the fastest group first. If no test called the function, perhaps because it is new, these
-        are a few tests of its file. Tests that `topics.txt` names for the file come first."""
+        """The tests for a mutant of Python code, the fastest group first. If no test called the function, perhaps
+        because it is new, these are a few tests of its file. Tests that `topics.txt` names for the file come first."""
         files = self.files_of(mutant.file)
         named = [test for test in self.tests if test.name.partition("::")[0] in files]
         called = self._of_functions[f"{mutant.file}|{mutant.code}"] if mutant.is_inside else []

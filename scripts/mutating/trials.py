@@ -45,7 +45,8 @@ class Verdict:
 
 
 def copied(root: Path, room: Path) -> None:
-    """A copy of the repository: copies of its Python folder, of the tools that start it and of the files at its top, and links to all other folders."""
+    """A copy of the repository: copies of its Python folder, of the tools that start it and of the files at its top,
+    and links to all other folders."""
     room.mkdir(parents=True)
     for path in root.iterdir():
         if path.is_file():

@@ -1,7 +1,9 @@
-"""Checks that each function, clause and definition that docs/proof/PROMISES.md cites exists, and that names in other pages exist.
+"""Checks that each function, clause and definition that docs/proof/PROMISES.md cites exists, and that names in other
+pages exist.
 
-The right column of PROMISES names functions and, after a colon, the labels of their clauses: `Snaps::load`: `film`, `good`. Names after
-"against", "over", "with" and the like are definitions. "The same" refers to the names in the previous row.
+The right column of PROMISES names functions and, after a colon, the labels of their clauses: `Snaps::load`: `film`,
+`good`. Names after "against", "over", "with" and the like are definitions. "The same" refers to the names in the
+previous row.
 """
 
 import re

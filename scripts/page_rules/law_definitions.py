@@ -1,9 +1,9 @@
 """Finds the definitions in the crates' specs/ that a law rests on: the definitions that it names, the definitions that
 these name, and so on.
 
-It reads words, not types. Each word in a definition that its file imports or defines counts as the name of a definition. So the rule may
-count too many definitions, but it doesn't miss one. Definitions of the toolchain's libraries
-aren't followed.
+It reads words, not types. Each word in a definition that its file imports or defines counts as the name of a
+definition. So the rule may count too many definitions, but it doesn't miss one. Definitions of the toolchain's
+libraries aren't followed.
 """
 
 import re

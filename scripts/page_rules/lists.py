@@ -1,5 +1,5 @@
-"""Checks the lists in docs/internals/ARCHITECTURE.md: the files that name most kinds, cells or commands, all crates, and the crates'
-imports.
+"""Checks the lists in docs/internals/ARCHITECTURE.md: the files that name most kinds, cells or commands, all crates,
+and the crates' imports.
 
 A developer who adds a kind, a cell or a command changes the files that name all of them. The page has a list for kinds,
 a list for cells and a list for commands. Each file that names most of them must be in that list, as a file to change or

@@ -1,4 +1,5 @@
-"""Checks that the quotes in docs/proof/THEOREM.md and the computed sessions equal their sources, character by character.
+"""Checks that the quotes in docs/proof/THEOREM.md and the computed sessions equal their sources, character by
+character.
 
     quotes  each code block of the page occurs in the file that is named on the line above it
     texts   each file of examples/ equals its bytes in crates/nr_programs/specs/Examples.antt

@@ -1,4 +1,5 @@
-"""Checks the reading list of docs/proof/THEOREM.md: the definitions that its laws rest on, by crate and file, and their lines.
+"""Checks the reading list of docs/proof/THEOREM.md: the definitions that its laws rest on, by crate and file, and their
+lines.
 
 A file comes after the files that it depends on, and a crate after the crates that it imports. Only the lines of
 definitions are counted, and not imports. Comments count for a file, but not for a law. Some premises of a law are

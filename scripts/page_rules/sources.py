@@ -1,4 +1,5 @@
-"""The contents of a crate's sources as `rt fmt` lays them out: functions with the labels of their clauses, and definitions."""
+"""The contents of a crate's sources as `rt fmt` lays them out: functions with the labels of their clauses, and
+definitions."""
 
 import re
 from collections.abc import Iterator

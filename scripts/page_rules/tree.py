@@ -50,7 +50,8 @@ class Tree:
 
     @cached_property
     def endings(self) -> set[str]:
-        """The ends of all paths of files and folders, such as `src/kind.rt` and `src/kind` for `crates/nr_rev/src/kind.rt`."""
+        """The ends of all paths of files and folders, such as `src/kind.rt` and `src/kind` for
+        `crates/nr_rev/src/kind.rt`."""
         places = self.places.union(os.path.splitext(path)[0] for path in self.paths if "/" in path)
         return {"/".join(place.split("/")[at:]) for place in places for at in range(place.count("/") + 1)}
 

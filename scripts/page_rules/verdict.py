@@ -1,5 +1,5 @@
-"""Checks that docs/proof/TRUSTED.md says what the verdict on the program takes as given, and that no function that the program calls may
-wait.
+"""Checks that docs/proof/TRUSTED.md says what the verdict on the program takes as given, and that no function that the
+program calls may wait.
 
 The last line of a crate's check is its verdict. The gate stores it (scripts/verdicts.py), with a checksum of the
 crate's files. If `rt ci` reuses an earlier proof, it prints no verdict; then the stored verdict counts, as long as the
@@ -68,7 +68,8 @@ def _own_sum(tree: Tree, crate: str) -> str:
 
 
 def sums(tree: Tree) -> dict[str, str]:
-    """For each crate, a checksum of the files that its verdict covers: its own, and those of all crates that it imports."""
+    """For each crate, a checksum of the files that its verdict covers: its own, and those of all crates that it
+    imports."""
     found: dict[str, str] = {}
     for name, imports in tree.crates.items():
         summed = [_own_sum(tree, name), *(found.get(other, "") for other in imports)]

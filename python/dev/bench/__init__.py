@@ -1,1 +1,2 @@
-"""Benchmarks of netrev: programs that report figures, and test nothing (docs/measurements/BENCHMARKS.md, docs/measurements/MEASUREMENTS.md)."""
+"""Benchmarks of netrev: programs that report figures, and test nothing (docs/measurements/BENCHMARKS.md,
+docs/measurements/MEASUREMENTS.md)."""

@@ -1,5 +1,5 @@
-"""The programs and recordings of the benchmarks: netrev, the same machine in plain Rust without proofs (`baseline`), and recordings of many
-shapes.
+"""The programs and recordings of the benchmarks: netrev, the same machine in plain Rust without proofs (`baseline`),
+and recordings of many shapes.
 
 NETREV names the program. NETREV_BASELINE names the program of `bench/baseline`. By default it is built; CPU, if set,
 names the processors that it is built for. NETREV_BEFORE names an older netrev to measure too.

@@ -78,8 +78,8 @@ def look(caller):
 
 
 def share(recording, fronts, each):
-    """Callers at `fronts` fronts send `each` commands at the same time. Returns the seconds until all have their replies, and the
-    seconds that the slowest front then needs to catch up."""
+    """Callers at `fronts` fronts send `each` commands at the same time. Returns the seconds until all have their
+    replies, and the seconds that the slowest front then needs to catch up."""
     with Server(recording, fronts, journal=1_000_000) as server:
         callers = [server.call(front) for front in range(fronts)]
         expect("the first replies", {f"at 0 of {STEPS} forward\n"}, {look(caller)[1] for caller in callers})

@@ -1,5 +1,5 @@
-"""The tables of `dev.bench.run` as text: the older and the current netrev beside the baseline, their ratios, and the means of the
-ratios."""
+"""The tables of `dev.bench.run` as text: the older and the current netrev beside the baseline, their ratios, and the
+means of the ratios."""
 
 from collections.abc import Iterable, Iterator, Sequence
 from dataclasses import dataclass
@@ -98,8 +98,8 @@ def under(title: str, words: Sequence[str]) -> list[str]:
 
 
 def figure_table(measured: Measurement, name: str) -> str:
-    """The table of one figure: a row for each shape, the sizes side by side, and the growth from the first size to the last if there are
-    two."""
+    """The table of one figure: a row for each shape, the sizes side by side, and the growth from the first size to the
+    last if there are two."""
     sizes, with_before = measured.sizes, measured.has(BEFORE)
     head = [measured.titles[name]]
     for steps in sizes:
@@ -151,8 +151,8 @@ def ratio_cell(figures: Figures, name: str) -> str:
 
 
 def side_by_side(title: str, sorts: dict[str, Cases], has_mean: bool) -> str:
-    """A table of the ratios to the baseline. Ratios of different kinds, such as instructions and times, are side by side. It
-    has a row for each case and, if requested, a row of geometric means."""
+    """A table of the ratios to the baseline. Ratios of different kinds, such as instructions and times, are side by
+    side. It has a row for each case and, if requested, a row of geometric means."""
     columns = [(name, sort) for name in NAMES for sort, cases in sorts.items() if has_figure(cases, name)]
     rows = [[case, *(ratio_cell(sorts[sort][case], name) for name, sort in columns)] for case in first_of(sorts)]
     if has_mean:
@@ -180,8 +180,8 @@ def mean_cell(cases: Cases, name: str) -> str:
 
 
 def growth_table(title: str, name: str, limits: dict[str, Cases]) -> str:
-    """How a figure grows with the limits in the header. Each row is a shape. For each program it has the figure at each limit, smallest
-    limit first, and the ratio of the last to the first."""
+    """How a figure grows with the limits in the header. Each row is a shape. For each program it has the figure at each
+    limit, smallest limit first, and the ratio of the last to the first."""
     least, *_, greatest = limits.values()
     programs = [program for program in PROGRAMS if all(program in figures for figures in least.values())]
     head = [title]

@@ -4,8 +4,8 @@
     cases, playing, counts              the case for a seed, its runs by netrev and the model, and counts of events
     keeping                             the reduction and storage of a case that shows a difference
 
-It also fuzzes the tools around netrev. For these tools, a fault is a Python traceback, an unexpected file, a terminal control
-sequence in the output, or a timeout:
+It also fuzzes the tools around netrev. For these tools, a fault is a Python traceback, an unexpected file, a terminal
+control sequence in the output, or a timeout:
 
     around                              cases of all kinds
     damaged_logs, logs                  the recorder's logs, and their text

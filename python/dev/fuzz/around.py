@@ -69,7 +69,8 @@ def in_time() -> Iterator[None]:
 
 @contextmanager
 def tracebacks() -> Iterator[io.StringIO]:
-    """While this context lasts, nrdb prints its own errors to this stream, with their tracebacks. Otherwise it reports them in a line."""
+    """While this context lasts, nrdb prints its own errors to this stream, with their tracebacks. Otherwise it reports
+    them in a line."""
     printed, before = io.StringIO(), os.environ.get(WANTED_BY)
     os.environ[WANTED_BY] = "1"
     try:

@@ -23,8 +23,8 @@ Made = tuple[bytes, bytes | None]  # a recording's text, and the script if there
 
 
 class Case(NamedTuple):
-    """A recording, the subcommand that runs over it (`run`, `check`, `upgrade`, `changes` or `suspects`), and for `run` the standard
-    input."""
+    """A recording, the subcommand that runs over it (`run`, `check`, `upgrade`, `changes` or `suspects`), and for `run`
+    the standard input."""
 
     seed: str
     sort: str

@@ -35,7 +35,8 @@ from .sessions.interrupts import confined, heard, pressed
 from .sessions.slow import Slow
 from .sessions.views import Judge
 
-# HAPPENS has the events that may happen at a point, with their relative frequencies. PRESSED says how often Ctrl-C is pressed.
+# HAPPENS has the events that may happen at a point, with their relative frequencies. PRESSED says how often Ctrl-C is
+# pressed.
 HAPPENS = {
     "ctrl-c": 8,
     "slow ctrl-c": 3,

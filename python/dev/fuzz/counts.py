@@ -11,8 +11,8 @@ from netrev.text.vocabulary import KINDS
 
 
 class Met(Observer):
-    """Counts of what the model did: applied steps by kind and answer, refused steps by kind and reason, steps with another recorded answer,
-    faults, and commands."""
+    """Counts of what the model did: applied steps by kind and answer, refused steps by kind and reason, steps with
+    another recorded answer, faults, and commands."""
 
     def __init__(self) -> None:
         self.cases: Counter[str] = Counter()

@@ -1,6 +1,6 @@
-"""Cases for the reader of logs: a real program's log with changed fields, in another order, mixed with another log, or with damaged
-bytes, and with any lines of tests beside it. The result must be a recording or an error message, in a process with little memory and
-time."""
+"""Cases for the reader of logs: a real program's log with changed fields, in another order, mixed with another log, or
+with damaged bytes, and with any lines of tests beside it. The result must be a recording or an error message, in a
+process with little memory and time."""
 
 import contextlib
 import io
@@ -259,7 +259,8 @@ def tests_wrong(log: Path, tests: Tests, folder: Path) -> str:
 
 
 def forms_wrong(results: list[TestResult]) -> str:
-    """What is wrong with the machine-readable outputs: an output lacks a test or has it twice, or an annotation has the wrong form."""
+    """What is wrong with the machine-readable outputs: an output lacks a test or has it twice, or an annotation has the
+    wrong form."""
     if [json.loads(line)["test"] for line in forms.json_lines(results).splitlines()] != [
         result.test for result in results
     ]:

@@ -1,5 +1,5 @@
-"""Cases for the adapter: an editor that sends any request, with arguments of any kind, and malformed messages. Each request must be
-answered once, and a malformed message must end the session."""
+"""Cases for the adapter: an editor that sends any request, with arguments of any kind, and malformed messages. Each
+request must be answered once, and a malformed message must end the session."""
 
 import io
 import json

@@ -16,9 +16,9 @@ def with_part(case: Case, part: str, text: bytes) -> Case:
 
 
 def smaller(netrev: str, case: Case, folder: Path) -> Case:
-    """Removes lines of the case's recording and script, as long as netrev and the model still differ. The last lines are
-    removed first, because later lines depend on earlier lines. This ends when no line can be removed, or when the tries
-    are used up."""
+    """Removes lines of the case's recording and script, as long as netrev and the model still differ. The last lines
+    are removed first, because later lines depend on earlier lines. This ends when no line can be removed, or when the
+    tries are used up."""
     left = TRIES
     for part in FILES:
         lines = getattr(case, part).split(b"\n")

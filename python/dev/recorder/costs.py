@@ -45,7 +45,8 @@ WAYS: dict[str, dict[str, str] | None] = {
     "with a log and lines": {"NETREV_LINES": "1", "NETREV_ORDERS": "0"},
     "with all three": {"NETREV_LINES": "1", "NETREV_ORDERS": "1"},
 }
-# The settings for a server: whether it has the overlay, the environment for its log (None: no log), and how it traces itself.
+# The settings for a server: whether it has the overlay, the environment for its log (None: no log), and how it traces
+# itself.
 SERVED: dict[str, tuple[bool, dict[str, str] | None, str]] = {
     "without the overlay": (False, None, ""),
     "with it, no log": (True, None, ""),
@@ -122,8 +123,8 @@ def ran(programs: tuple[pathlib.Path, pathlib.Path], way: str, logs: pathlib.Pat
 
 @dataclass
 class Measured:
-    """The programs of one Go with one recorder, and the measurements for each setting: the nanoseconds of each call, and the round trips a
-    second."""
+    """The programs of one Go with one recorder, and the measurements for each setting: the nanoseconds of each call,
+    and the round trips a second."""
 
     name: str
 
@@ -162,8 +163,8 @@ class Measured:
 
 @dataclass
 class Served:
-    """The server, built with one release of Go and one recorder. Its measurements are stored by number of connections and setting: the
-    nanoseconds per request, and the bytes kept per request."""
+    """The server, built with one release of Go and one recorder. Its measurements are stored by number of connections
+    and setting: the nanoseconds per request, and the bytes kept per request."""
 
     name: str
     programs: tuple[pathlib.Path, pathlib.Path]
@@ -201,8 +202,9 @@ class Served:
             log.unlink()
 
     def tell(self) -> None:
-        """Prints a row for each number of connections and setting: the median processor time, its increase over the first setting, and the
-        other medians. The increase is the median over all rounds; in a round, both settings had the same load."""
+        """Prints a row for each number of connections and setting: the median processor time, its increase over the
+        first setting, and the other medians. The increase is the median over all rounds; in a round, both settings had
+        the same load."""
         for (connections, way), times in self.times.items():
             base = self.times[connections, self.ways[0]]
             more = statistics.median(cost / other for cost, other in zip(times, base)) - 1
@@ -223,8 +225,8 @@ def loads() -> str:
 def measured_by(
     recorder: pathlib.Path, name: str, go: Go, folder: pathlib.Path, requests: int, is_before: bool
 ) -> Measured | Served:
-    """The samples, built with the overlay of a clone's recorder. For a server with the earlier recorder, only `without the overlay`
-    and the settings with the overlay are measured."""
+    """The samples, built with the overlay of a clone's recorder. For a server with the earlier recorder, only `without
+    the overlay` and the settings with the overlay are measured."""
     folder.mkdir(parents=True)
     overlay = overlay_by(recorder, go)
     if requests:

@@ -1,5 +1,5 @@
-"""Fetches Debian's packages of a Go release into the user's cache and unpacks them, without installing anything or changing apt's own
-lists.
+"""Fetches Debian's packages of a Go release into the user's cache and unpacks them, without installing anything or
+changing apt's own lists.
 
     python3 python dev.recorder.fetching 1.27    prints the folder of its `go`, and fetches the release if it is missing
 """

@@ -1,5 +1,5 @@
-"""The state of a release before programs are recorded with it: whether the rules fit, whether Go compiles the changed files, and the result
-of doctor's trial."""
+"""The state of a release before programs are recorded with it: whether the rules fit, whether Go compiles the changed
+files, and the result of doctor's trial."""
 
 from __future__ import annotations
 

@@ -1,16 +1,16 @@
-"""`make real`: records Go's own tests, those of other projects and the samples, each in a process of its own, on one processor and on four,
-and compares every answer and every lock word with netrev's.
+"""`make real`: records Go's own tests, those of other projects and the samples, each in a process of its own, on one
+processor and on four, and compares every answer and every lock word with netrev's.
 
     python3 python dev.recorder.real [--go 1.27 | --go all] [--processors 1,4] [--seconds N] [--only WORD,..]
                                   [--tests WORD] [--small] [--record | --check]
     python3 python dev.recorder.real --gate
 
 The default is the `go` on the PATH. --go chooses one of Debian's releases, and fetches it if it is missing
-(dev.recorder.fetching). --seconds limits the time for each release.
-The words of --only and --tests are regular expressions, for example `--only '^net$' --tests '^TestUnix'`. The recordings stay in
-out/real/RELEASE, with a line of JSON for each test's process in results.jsonl; --check compares existing recordings and makes none. --small
-omits most tests. --gate is --small with the releases in GATE, or with the `go` on the PATH if neither is installed; if there is no Go, it
-says so and does nothing.
+(dev.recorder.fetching). --seconds limits the time for each release. The words of --only and --tests are regular
+expressions, for example `--only '^net$' --tests '^TestUnix'`. The recordings stay in out/real/RELEASE, with a line of
+JSON for each test's process in results.jsonl; --check compares existing recordings and makes none. --small omits most
+tests. --gate is --small with the releases in GATE, or with the `go` on the PATH if neither is installed; if there is no
+Go, it says so and does nothing.
 """
 
 from __future__ import annotations
@@ -87,8 +87,8 @@ def recorded(log: pathlib.Path, result: Result, name: pathlib.Path) -> bool:
 
 
 def compared(netrev: str, result: Result) -> None:
-    """Stores netrev's answer about a recording, and how many of Go's lock words differ in it. For a healthy program, also stores nrdb's
-    suspects."""
+    """Stores netrev's answer about a recording, and how many of Go's lock words differ in it. For a healthy program,
+    also stores nrdb's suspects."""
     name = pathlib.Path(result.recording)
     try:
         taken, result.said = check(netrev, name)
@@ -142,8 +142,8 @@ class Recorder:
         keep(self.results, self.out)
 
     def suite(self, suite: Suite) -> None:
-        """Runs each test of a package in a process of its own. If the package isn't here (another project's may be missing), adds
-        it to `missing`."""
+        """Runs each test of a package in a process of its own. If the package isn't here (another project's may be
+        missing), adds it to `missing`."""
         folder = source_folder(self.go, suite)
         if not folder.is_dir():
             self.missing.append(suite.package)

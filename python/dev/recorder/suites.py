@@ -71,7 +71,8 @@ OF_OTHERS = (
     ),
     Suite("github.com/valyala/fasthttp", "Client|Server|Conn|Timeout|Pipeline|Dial|Listen|Shutdown"),
 )
-# TestSplice moves gigabytes, and each byte takes two characters in a recording. So only its subtests that move less data are run.
+# TestSplice moves gigabytes, and each byte takes two characters in a recording. So only its subtests that move less
+# data are run.
 PARTS = {"TestSplice": "^TestSplice$/./^(simple|multipleWrite|honors|updates|limited|readerAtEOF|issue)"}
 # The runs that the gate records: each sample once, and ten tests.
 SMALL_SAMPLES = (

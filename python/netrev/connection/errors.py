@@ -22,8 +22,8 @@ Part = TypeVar("Part")
 
 
 def needed(part: Part | None) -> Part:
-    """Returns a part of a session that exists only with a recording; raises UsageError if a session was joined without a
-    recording."""
+    """Returns a part of a session that exists only with a recording; raises UsageError if a session was joined without
+    a recording."""
     if part is None:
         raise UsageError(messages.NEEDS_RECORDING)
     return part

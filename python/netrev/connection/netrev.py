@@ -69,8 +69,8 @@ class LineReader:
         self._rest = b""
 
     def next(self, sent: str) -> str | None:
-        """The next line, without its line feed; None at the end. If a line has no end, raises StrangeReplyError with the line
-        that was sent."""
+        """The next line, without its line feed; None at the end. If a line has no end, raises StrangeReplyError with
+        the line that was sent."""
         while not self._whole:
             if len(self._rest) > LONGEST:
                 raise StrangeReplyError(sent, self._rest[:READ].decode("latin-1"))
@@ -121,8 +121,8 @@ class Netrev:
 
     def ask_ahead(self, queries: Sequence[str]) -> None:
         """Sends several queries at once. The queries change nothing, and each has a reply of one line. `ask` returns
-        these replies, in the same order, until another line is sent. If a query failed, `ask` raises the error when that
-        reply is requested."""
+        these replies, in the same order, until another line is sent. If a query failed, `ask` raises the error when
+        that reply is requested."""
         self._begin(list(queries))
         for query in queries:
             try:
@@ -248,7 +248,8 @@ class Own(Netrev):
 
 
 class Joined(Netrev):
-    """A connection to a session of `netrev serve`, at its address. `silent` is called if the first reply takes a long time."""
+    """A connection to a session of `netrev serve`, at its address. `silent` is called if the first reply takes a long
+    time."""
 
     asks_ahead = False
 

@@ -74,8 +74,8 @@ class ListedMark(NamedTuple):
 
 
 def matched(shape: re.Pattern[str], line: str, reply: str) -> Match[str]:
-    """The parts of a reply to this line. If the reply doesn't have this form, raises LineRefusedError for a fault, and StrangeReplyError
-    for anything else."""
+    """The parts of a reply to this line. If the reply doesn't have this form, raises LineRefusedError for a fault, and
+    StrangeReplyError for anything else."""
     found = shape.fullmatch(reply)
     if found is None:
         raise LineRefusedError(reply) if reply.startswith("fault ") else StrangeReplyError(line, reply)

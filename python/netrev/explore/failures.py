@@ -38,8 +38,8 @@ Watched = dict[tuple[int, int], int]
 
 
 class Failed(NamedTuple):
-    """The first call that failed in a schedule: its goroutine, its first operation, the step of the schedule at which it failed,
-    and the reason."""
+    """The first call that failed in a schedule: its goroutine, its first operation, the step of the schedule at which
+    it failed, and the reason."""
 
     goroutine: int
     begins: int

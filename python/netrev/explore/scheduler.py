@@ -1,7 +1,7 @@
-"""The scheduler: runs a script under the delays of a schedule. Time is counted in steps of the recording. A recorded step is due at
-the time at which it was made, or later if its goroutine is delayed; any other step is due at once. A goroutine makes no
-step while it sleeps, while the program's order lets another goroutine continue first, or while its object doesn't
-exist."""
+"""The scheduler: runs a script under the delays of a schedule. Time is counted in steps of the recording. A recorded
+step is due at the time at which it was made, or later if its goroutine is delayed; any other step is due at once. A
+goroutine makes no step while it sleeps, while the program's order lets another goroutine continue first, or while its
+object doesn't exist."""
 
 from heapq import heapify, heappop, heappush
 from typing import NamedTuple

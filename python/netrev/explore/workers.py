@@ -60,8 +60,8 @@ class Share(NamedTuple):
     of: int
 
     def run(self, search: Search, best: dict[Key, Best], skipped: int = 0) -> Iterator[None]:
-        """Runs the schedules of the share, except the first `skipped` schedules, and keeps the simplest schedule of each
-        finding. Yields after each schedule."""
+        """Runs the schedules of the share, except the first `skipped` schedules, and keeps the simplest schedule of
+        each finding. Yields after each schedule."""
         mine = islice(enumerate(schedules(search.delays, self.most)), self.which + skipped * self.of, None, self.of)
         for at, schedule in mine:
             for key in search.try_schedule(schedule):

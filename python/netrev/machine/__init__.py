@@ -1,7 +1,8 @@
 """A model of netrev in Python: the machine with its 31 kinds of step, and the shared debugger.
 
-It is written only from docs/internals/MACHINE.md, docs/reference/RECORDING.md and docs/reference/COMMANDS.md, and not from crates/. If
-the model and the program differ, a page contradicts the program, and either the page or the program has to change.
+It is written only from docs/internals/MACHINE.md, docs/reference/RECORDING.md and docs/reference/COMMANDS.md, and not
+from crates/. If the model and the program differ, a page contradicts the program, and either the page or the program
+has to change.
 
     machine, lockword, polling, steps   the machine and its steps
     in_place, changed                   the machine changed in place, with undo, and the cells that a step changed

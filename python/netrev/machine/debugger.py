@@ -36,7 +36,8 @@ Marks = tuple[tuple[int, str], ...]  # the number of each, and its text in `info
 
 
 class Request(NamedTuple):
-    """The meaning of a line: a command, which goes into the journal, a query, or a line with the same reply in every state."""
+    """The meaning of a line: a command, which goes into the journal, a query, or a line with the same reply in every
+    state."""
 
     sort: str
     what: Any = None

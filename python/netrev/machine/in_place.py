@@ -1,5 +1,5 @@
-"""The machine, changed in place: the 31 functions of steps.py work on it as on a World. It stores the changes of each step, so that a
-refused step changes nothing, the last steps can be undone, and callers can ask what a step changed."""
+"""The machine, changed in place: the 31 functions of steps.py work on it as on a World. It stores the changes of each
+step, so that a refused step changes nothing, the last steps can be undone, and callers can ask what a step changed."""
 
 from __future__ import annotations
 

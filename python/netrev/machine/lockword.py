@@ -1,4 +1,5 @@
-"""The five operations on a lock word. Each returns the answer, the new word, and the number of releases that are owed to each side.
+"""The five operations on a lock word. Each returns the answer, the new word, and the number of releases that are owed
+to each side.
 """
 
 from .machine import Lock, StepRefusedError, at, put

@@ -1,7 +1,7 @@
 """The machine's state, as in docs/internals/MACHINE.md. A state is immutable: a step makes the next state from it.
 
-A status is a tuple of the words of `print gor`: ("idle",), ("acquiring", 0, "r"), ("owing", 0, 2, 1). Values for both sides are pairs,
-reading first.
+A status is a tuple of the words of `print gor`: ("idle",), ("acquiring", 0, "r"), ("owing", 0, 2, 1). Values for both
+sides are pairs, reading first.
 """
 
 from __future__ import annotations

@@ -9,8 +9,8 @@ from .machine import GREATEST_SEQUENCE, Desc, StepRefusedError, Timer, Word, Wor
 
 
 def check(desc: Desc, side: str) -> int:
-    """The code of a side: 1 if the descriptor is closing, 2 if the side's deadline has passed, 3 after an event error (for reading only),
-    or 0."""
+    """The code of a side: 1 if the descriptor is closing, 2 if the side's deadline has passed, 3 after an event error
+    (for reading only), or 0."""
     if desc.closing:
         return 1
     if desc.deadlines[at(side)] < 0:
@@ -35,8 +35,8 @@ def with_word(world: World, d: int, side: str, word: Word) -> World:
 
 
 def unblock(world: World, d: int, side: str, readiness: bool) -> World:
-    """Unblocks the word of a side. The word becomes ready if `readiness` is true, else nil, unless it is ready already. If it
-    held a goroutine, the goroutine continues to the swap."""
+    """Unblocks the word of a side. The word becomes ready if `readiness` is true, else nil, unless it is ready already.
+    If it held a goroutine, the goroutine continues to the swap."""
     word = world.descs[d].words[at(side)]
     if word == "ready":
         return world
@@ -96,7 +96,8 @@ def followed(is_running: bool, place: int, before: Sequence[int], now: Sequence[
 
 
 def deadline_of(clock: int, time: int) -> int:
-    """The clock's value at a deadline that is `time` from now. A `time` of 0 (no deadline) or below (a past deadline) is returned as it is."""
+    """The clock's value at a deadline that is `time` from now. A `time` of 0 (no deadline) or below (a past deadline)
+    is returned as it is."""
     return min(clock + time, GREATEST_TIME) if time > 0 else time
 
 

@@ -1,7 +1,8 @@
-"""The 31 kinds of step: each is a function of the state and the arguments that returns the next state and the answer, or raises StepRefusedError
-with the first reason, in the order of the table in docs/internals/MACHINE.md.
+"""The 31 kinds of step: each is a function of the state and the arguments that returns the next state and the answer,
+or raises StepRefusedError with the first reason, in the order of the table in docs/internals/MACHINE.md.
 
-Answers are the words of docs/internals/MACHINE.md in lower case; `number`, `code`, `got` and `put` come with their number.
+Answers are the words of docs/internals/MACHINE.md in lower case; `number`, `code`, `got` and `put` come with their
+number.
 """
 
 from collections.abc import Callable

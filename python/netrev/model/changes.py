@@ -23,7 +23,8 @@ def _shown(machine: Machine, cell: str) -> object:
 
 
 def changes(recording: bytes, observer: Observer) -> tuple[list[str], bool]:
-    """The lines of all steps and the final line, and whether the recording is free of faults. Raises DoubtfulNumberError if the model can't decide."""
+    """The lines of all steps and the final line, and whether the recording is free of faults. Raises
+    DoubtfulNumberError if the model can't decide."""
     lines: list[str] = []
     try:
         text = read_text(recording)

@@ -1,4 +1,5 @@
-"""The model of netrev's program: the output of `run`, `check`, `upgrade`, `changes` and `suspects` for the bytes of a recording."""
+"""The model of netrev's program: the output of `run`, `check`, `upgrade`, `changes` and `suspects` for the bytes of a
+recording."""
 
 from collections.abc import Callable, Iterable
 from typing import NamedTuple
@@ -49,8 +50,8 @@ class ReplayedRecording(NamedTuple):
 def replay(
     recording: bytes, observer: Observer, keeps_worlds: bool = True, keeps_answers: bool = True
 ) -> ReplayedRecording:
-    """Replays the recording. Raises FaultError if the recording has a fault, and DoubtfulNumberError if the model can't decide. The
-    result has the states and the answers only if the caller asks for them."""
+    """Replays the recording. Raises FaultError if the recording has a fault, and DoubtfulNumberError if the model can't
+    decide. The result has the states and the answers only if the caller asks for them."""
     text = read_text(recording)
     worlds, answers = held_together(positions(text, observer), keeps_worlds, keeps_answers)
     return ReplayedRecording(text, worlds, answers)
@@ -72,7 +73,8 @@ def held_together(
 
 
 def printed(program: str, recording: bytes, script: bytes, observer: Observer) -> Printed | None:
-    """The output of `netrev SUBCOMMAND` over this recording, for `run` with this script; None if the model can't decide."""
+    """The output of `netrev SUBCOMMAND` over this recording, for `run` with this script; None if the model can't
+    decide."""
     try:
         if program in LISTS:
             lines, is_good = LISTS[program](recording, observer)

@@ -1,6 +1,6 @@
 """The output of `netrev suspects` for a recording, following the definitions in docs/reference/COMMANDS.md word for
-word: each definition is checked against all steps, and the states before and after each step. This takes quadratic time, so it is
-meant for short recordings.
+word: each definition is checked against all steps, and the states before and after each step. This takes quadratic
+time, so it is meant for short recordings.
 
     passed deadline  a `fire` that lets the deadline of a side pass, and the `setdeadline` that set the deadline
     timeout          a check that is answered `code 2` and ends a call, and the `setdeadline` that set the deadline
@@ -56,8 +56,8 @@ class ReplayedStates(NamedTuple):
 
 
 def suspects(recording: bytes, observer: Observer, hunts: Sequence[str] = HUNTS) -> tuple[list[str], bool]:
-    """The lines, and whether the recording is free of faults; raises DoubtfulNumberError if the model can't decide. If there is a fault, it is the
-    only line."""
+    """The lines, and whether the recording is free of faults; raises DoubtfulNumberError if the model can't decide. If
+    there is a fault, it is the only line."""
     try:
         text = read_text(recording)
         reached = list(positions(text, observer))

@@ -47,7 +47,8 @@ class Call:
     is_asking: bool = False  # whether it waits for a lock that another goroutine holds
     is_ending: bool = False  # whether it has given up its reference and must still release or destroy
     destroys: bool = False
-    # the step that caused the call's error: the setting of the deadline, or the close of the socket or of its write side
+    # the step that caused the call's error: the setting of the deadline, or the close of the socket or of its write
+    # side
     cause: int = 0
     passed: int = 0  # for a timeout, the step at which the deadline passed
     error: str = ""  # the system's name for the call's error, if any

@@ -1,6 +1,6 @@
 """The output of `netrev changes` for a recording: the cells that each step changed, with their new values. At first the
-lines are kept as bytes, which are searched and parsed only when needed. After many queries they become arrays of numbers, two for each cell. Each
-value is stored once, because a million steps change several million cells."""
+lines are kept as bytes, which are searched and parsed only when needed. After many queries they become arrays of
+numbers, two for each cell. Each value is stored once, because a million steps change several million cells."""
 
 import re
 from array import array
@@ -52,8 +52,8 @@ class ChangedLines:
         return self._lasts[-1] if self._lasts else 0
 
     def texts(self, first: int, end: int) -> Iterator[tuple[str, str, str]]:
-        """The step, the cell and the value of each line of these pieces, as texts; raises IncompleteChangesError if a line lacks one
-        of them."""
+        """The step, the cell and the value of each line of these pieces, as texts; raises IncompleteChangesError if a
+        line lacks one of them."""
         for piece in self.pieces[first:end]:
             found = LINES.findall(piece.decode("latin-1"))
             if len(found) != piece.count(b"\n"):
@@ -190,7 +190,8 @@ class RecordedChanges:
 
     @classmethod
     def read(cls, pieces: Iterable[bytes]) -> "RecordedChanges":
-        """The changes of a whole output, given in pieces; raises IncompleteChangesError if the output is malformed or incomplete."""
+        """The changes of a whole output, given in pieces; raises IncompleteChangesError if the output is malformed or
+        incomplete."""
         changes = cls()
         for piece in pieces:
             changes.take(piece)
@@ -247,9 +248,9 @@ class RecordedChanges:
     def nearest(
         self, cells: Sequence[str], are_wanted: Callable[[list[str]], bool], position: int, backwards: bool
     ) -> int | None:
-        """The nearest later position just after a change of one of the cells; with `backwards`, the nearest earlier one.
-        Positions are skipped unless `are_wanted` accepts the cells' values there. The result is None if no position is
-        left."""
+        """The nearest later position just after a change of one of the cells; with `backwards`, the nearest earlier
+        one. Positions are skipped unless `are_wanted` accepts the cells' values there. The result is None if no
+        position is left."""
         steps = sorted({step for cell in cells for step in self.steps_of(cell, position if backwards else None)})
         ways = reversed(steps[: bisect_left(steps, position)]) if backwards else steps[bisect_right(steps, position) :]
         return next((step for step in ways if are_wanted(self.values(step, cells))), None)

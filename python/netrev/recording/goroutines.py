@@ -97,8 +97,8 @@ class ObjectUse(NamedTuple):
 
 class Timer(NamedTuple):
     """A timer that a goroutine made, reset or stopped. `object` is its channel (0 if the timer calls a function), and
-    `step` is the last step before the goroutine did so. `due` is the time at which the timer goes off (-1 if it was stopped). For a
-    timer without a channel, the recording has only the call that made it."""
+    `step` is the last step before the goroutine did so. `due` is the time at which the timer goes off (-1 if it was
+    stopped). For a timer without a channel, the recording has only the call that made it."""
 
     object: int
     goid: int

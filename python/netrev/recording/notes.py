@@ -1,5 +1,5 @@
-"""The notes of a recording: a class for each kind of note, a class for uses of descriptors, which contain most notes, and
-the goroutines: their statuses, each parsed once, and how long they pause in each status."""
+"""The notes of a recording: a class for each kind of note, a class for uses of descriptors, which contain most notes,
+and the goroutines: their statuses, each parsed once, and how long they pause in each status."""
 
 from bisect import bisect_left
 from typing import NamedTuple

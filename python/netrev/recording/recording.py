@@ -106,8 +106,8 @@ class Recording:
 
     @classmethod
     def read(cls, path: str) -> "Recording":
-        """Reads the file that netrev reads. Raises an OSError if that fails, and NotARecordingError if the file can't be read
-        twice."""
+        """Reads the file that netrev reads. Raises an OSError if that fails, and NotARecordingError if the file can't
+        be read twice."""
         check_name(path)
         if not stat.S_ISREG(os.stat(path).st_mode) and not os.path.isdir(path):
             raise NotARecordingError(messages.NOT_A_FILE.format(path=path))

@@ -66,8 +66,8 @@ class OfDeadline(NamedTuple):
 
 class SuspectEntries:
     """The entries of a list of suspects. Lost wake-ups and passed deadlines are in the order of the lines. Sleeping
-    goroutines whose read or write could return are keyed by goroutine, descriptor and side. Held references are keyed by
-    socket and goroutine, and timeouts by step. Withdrawn deadlines are keyed by step, descriptor and side."""
+    goroutines whose read or write could return are keyed by goroutine, descriptor and side. Held references are keyed
+    by socket and goroutine, and timeouts by step. Withdrawn deadlines are keyed by step, descriptor and side."""
 
     def __init__(self, lines: Iterable[str] = ()) -> None:
         self.lost_wake_ups: list[LostWakeUp] = []

@@ -1,5 +1,5 @@
-"""NAME.where, the file of source lines beside a recording (docs/reference/RECORDING.md has the format). netrev never reads it, and
-a recording works without it."""
+"""NAME.where, the file of source lines beside a recording (docs/reference/RECORDING.md has the format). netrev never
+reads it, and a recording works without it."""
 
 import json
 import os

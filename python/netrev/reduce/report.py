@@ -156,7 +156,8 @@ def _step_text(step: Step, is_wide: bool) -> str:
 
 
 class Story(NamedTuple):
-    """The contents of a report of a hang: the title, the sentences, the tree, the goroutines, and the command to type next."""
+    """The contents of a report of a hang: the title, the sentences, the tree, the goroutines, and the command to type
+    next."""
 
     title: str
     says: list[str]

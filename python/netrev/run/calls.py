@@ -92,7 +92,8 @@ def fail(notes: Notes, call: Call, outcome: Outcome) -> None:
 
 
 # One function for each kind of step. It takes the book, the notes and a step's arguments, and returns a function that
-# runs after each step with the same line, as in `notes.py`. (`sysread`, `syswrite`, `setdeadline` and `closewrite` don't end a call.)
+# runs after each step with the same line, as in `notes.py`. (`sysread`, `syswrite`, `setdeadline` and `closewrite`
+# don't end a call.)
 
 
 def goes_on(book: Book, notes: Notes, g: int, *_: object) -> Look:

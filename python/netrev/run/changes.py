@@ -63,8 +63,8 @@ class PrintedChanges:
 
 
 def read_with_changes(netrev: str, path: str) -> Recording:
-    """The recording in a file, with the changes that netrev lists. Raises an OSError or IncompleteChangesError if netrev
-    doesn't list them."""
+    """The recording in a file, with the changes that netrev lists. Raises an OSError or IncompleteChangesError if
+    netrev doesn't list them."""
     with PrintedChanges(netrev, path) as printed:
         recording = Recording.read(path)
         status, _, _ = printed.ended()

@@ -1,5 +1,5 @@
-"""Go's control flow for a socket (internal/poll, runtime/netpoll): the next step of a goroutine, given its status and its operation, and
-what follows each answer. A call is a list of operations; `Read` locks, resets, reads and unlocks."""
+"""Go's control flow for a socket (internal/poll, runtime/netpoll): the next step of a goroutine, given its status and
+its operation, and what follows each answer. A call is a list of operations; `Read` locks, resets, reads and unlocks."""
 
 from enum import Enum, auto
 from typing import Any, NamedTuple
@@ -54,7 +54,8 @@ ASLEEP = ("parked", "queued")
 
 
 class Names(NamedTuple):
-    """The objects that the first step of an operation names: a goroutine, a socket or a descriptor, and a side or a mode."""
+    """The objects that the first step of an operation names: a goroutine, a socket or a descriptor, and a side or a
+    mode."""
 
     goroutine: bool
     of: str

@@ -1,5 +1,5 @@
-"""One index of a recorded run: who made a step, on which socket and in which call, and who holds what. Each part is read
-once, when it is first needed, because a recording may have a million steps."""
+"""One index of a recorded run: who made a step, on which socket and in which call, and who holds what. Each part is
+read once, when it is first needed, because a recording may have a million steps."""
 
 import sys
 from bisect import bisect_right
@@ -79,8 +79,8 @@ class RunIndex:
         return last_steps(self.recording, position, goroutines)
 
     def goroutine_at(self, position: int) -> int:
-        """The goroutine that made the last step up to a position. If no goroutine has made one, the goroutine that makes
-        the next step; -1 if no goroutine makes one."""
+        """The goroutine that made the last step up to a position. If no goroutine has made one, the goroutine that
+        makes the next step; -1 if no goroutine makes one."""
         goroutines = self.owners.goroutines
         steps = chain(range(position - 1, -1, -1), range(position, len(goroutines)))
         return next((goroutines[at] for at in steps if goroutines[at] >= 0), -1)
@@ -144,8 +144,8 @@ class RunIndex:
         return [] if name.is_goid else self.by_goroutine.get(name.number, [])
 
     def call_of(self, step: int, goroutine: int | None = None) -> Call | None:
-        """The innermost call that a step belongs to. If a goroutine is given, that goroutine's innermost call around the
-        step."""
+        """The innermost call that a step belongs to. If a goroutine is given, that goroutine's innermost call around
+        the step."""
         g = self.recording.step(step).argument("g") if goroutine is None else goroutine
         begun = back(self.by_goroutine.get(g, ()), step)
         return next((call for call in begun if not call.last or call.last >= step), None)
@@ -268,8 +268,8 @@ def frames_from_own(stack: Stack) -> tuple[SourceCall, ...]:
 
 
 def is_within(stack: Stack, frames: tuple[SourceCall, ...]) -> bool:
-    """Whether a goroutine with this stack is still in the function of `frames[0]`, called by the same callers. It may be in
-    a call that this function made."""
+    """Whether a goroutine with this stack is still in the function of `frames[0]`, called by the same callers. It may
+    be in a call that this function made."""
     outer = stack.calls[len(stack.calls) - len(frames) :] if len(stack.calls) >= len(frames) else ()
     return bool(outer) and outer[0].function == frames[0].function and outer[1:] == frames[1:]
 

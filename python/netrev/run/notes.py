@@ -3,10 +3,11 @@ goroutine has held which reference since when, which goroutine set which deadlin
 goroutines paused. This is nrdb's own analysis. Two functions are prepared for each step: one notes the step, the other
 inspects the state. A recording may have a million steps, so equal lines near each other share the two functions.
 
-A function for each kind of step (`NOTES`) gets the notes and a step's arguments, and returns the function that is called at each step
-with the same line; that one's arguments are the step's number as an integer and as text. Each function looks up the cells that it needs
-by step and cell (`12 lock 0`). `changed_aspects` in crates/nr_rev/specs/Aspect.antt says which cells a kind may change.
-`parkcommit`, a deadline and an evict neither make a word ready nor consume its readiness."""
+A function for each kind of step (`NOTES`) gets the notes and a step's arguments, and returns the function that is
+called at each step with the same line; that one's arguments are the step's number as an integer and as text. Each
+function looks up the cells that it needs by step and cell (`12 lock 0`). `changed_aspects` in
+crates/nr_rev/specs/Aspect.antt says which cells a kind may change. `parkcommit`, a deadline and an evict neither make a
+word ready nor consume its readiness."""
 
 from __future__ import annotations
 

@@ -77,7 +77,8 @@ class Reference:
 
 
 class Holding(NamedTuple):
-    """A reference that is held at the step that `holders_of` has reached. `number` is the number of the step that took the reference."""
+    """A reference that is held at the step that `holders_of` has reached. `number` is the number of the step that took
+    the reference."""
 
     number: int
     goroutine: int

@@ -1,5 +1,5 @@
-"""The breaks at lines and functions of the program. These breaks are nrdb's own and use none of netrev's marks. If netrev has moved
-past such a break, nrdb goes back to it."""
+"""The breaks at lines and functions of the program. These breaks are nrdb's own and use none of netrev's marks. If
+netrev has moved past such a break, nrdb goes back to it."""
 
 import re
 from bisect import bisect_left, bisect_right

@@ -75,8 +75,8 @@ class Session:
         self.breaks.is_met = lambda number, at: number not in self.conditions or self.holds(self.conditions[number], at)
 
     def begin(self, reply: str) -> None:
-        """Prints the position that netrev's first reply gives; raises MismatchedRecordingError if the session has a different
-        recording."""
+        """Prints the position that netrev's first reply gives; raises MismatchedRecordingError if the session has a
+        different recording."""
         self.known_position, self.length, _ = position_of(reply)
         if self.recording and self.recording.length != self.length:
             raise MismatchedRecordingError(
@@ -135,8 +135,8 @@ class Session:
             return True
 
     def attempt(self, line: str) -> bool:
-        """Answers a line, which may have several commands separated by `;`, and runs the commands of marks that were hit.
-        Returns False if the session has ended."""
+        """Answers a line, which may have several commands separated by `;`, and runs the commands of marks that were
+        hit. Returns False if the session has ended."""
         if not line.split() or line.lstrip().startswith("#"):
             return True
         for part in parts_of(line):
@@ -261,8 +261,8 @@ class Session:
         return dump_words(cell, value) if is_dump else in_words(cell, value) if cell_of(cell.split()) else ""
 
     def arrive(self, position: int, numbers: Sequence[str] = (), marks_before: Sequence[ListedMark] = ()) -> None:
-        """Prints the position after a move, the marks that were hit, and the changes made by the last step. `stood` are the
-        marks listed before the move."""
+        """Prints the position after a move, the marks that were hit, and the changes made by the last step. `stood` are
+        the marks listed before the move."""
         self.known_position, self.frame, self.is_before, self.goroutine = position, None, False, None
         self.attached.hits(numbers)
         self.printer.place(self.place(position))

@@ -29,8 +29,8 @@ class Interrupts:
 
     @contextmanager
     def held(self, first: Callable[[], None] = lambda: None) -> Iterator[None]:
-        """Context in which Ctrl-C is remembered and reported by `check`; a second Ctrl-C raises SessionAbandonedError. `first` is
-        called at the first Ctrl-C."""
+        """Context in which Ctrl-C is remembered and reported by `check`; a second Ctrl-C raises SessionAbandonedError.
+        `first` is called at the first Ctrl-C."""
         self._is_pressed, self._first = False, first
         before = signal.signal(signal.SIGINT, self._handle)
         try:
@@ -40,7 +40,8 @@ class Interrupts:
 
     @contextmanager
     def at_once(self) -> Iterator[None]:
-        """Context for work without queries, in which Ctrl-C raises SearchInterruptedError at once, except inside `shielded`."""
+        """Context for work without queries, in which Ctrl-C raises SearchInterruptedError at once, except inside
+        `shielded`."""
         self.check()
         before, self._stops_at_once = self._stops_at_once, True
         try:
@@ -90,6 +91,7 @@ class Interrupts:
             raise SearchInterruptedError
 
     def check_given_up(self) -> None:
-        """Raises SessionAbandonedError if the session was given up, even if an earlier SessionAbandonedError was caught."""
+        """Raises SessionAbandonedError if the session was given up, even if an earlier SessionAbandonedError was
+        caught."""
         if self._is_given_up:
             raise SessionAbandonedError

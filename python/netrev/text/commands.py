@@ -5,7 +5,8 @@ from dataclasses import dataclass
 
 @dataclass(frozen=True)
 class Command:
-    """A command: its name, its usage, what it does, and its short names. If the command steps, an empty line in nrdb repeats it."""
+    """A command: its name, its usage, what it does, and its short names. If the command steps, an empty line in nrdb
+    repeats it."""
 
     name: str
     usage: str

@@ -12,7 +12,8 @@ GREATEST_TIME = 2**63 - 1
 
 
 class Limits(NamedTuple):
-    """The header's keys except the version: the greatest numbers of goroutines, sockets and descriptors, and the bytes of a buffer."""
+    """The header's keys except the version: the greatest numbers of goroutines, sockets and descriptors, and the bytes
+    of a buffer."""
 
     gor: int
     sock: int

@@ -6,8 +6,8 @@
 It doesn't accept, as a whole number, `-0`, a number with a point or an exponent, or a number that doesn't fit into 64
 bits.
 
-JSON parsers differ about numbers close to the largest floating-point number. `DoubtfulNumberError` is raised for such a number,
-and the case isn't judged.
+JSON parsers differ about numbers close to the largest floating-point number. `DoubtfulNumberError` is raised for such a
+number, and the case isn't judged.
 """
 
 import json

@@ -69,7 +69,8 @@ def is_hexadecimal(text: str) -> bool:
 
 @lru_cache(maxsize=10_000)
 def value_of(line: bytes) -> Any:
-    """The JSON value of a line, whose length the caller has checked. Callers must not change it, because equal lines share it."""
+    """The JSON value of a line, whose length the caller has checked. Callers must not change it, because equal lines
+    share it."""
     try:
         return read_json(line)
     except NotJsonError as error:

@@ -4,8 +4,9 @@ UNSAFE = {ord("\n"): "\\n", ord("\r"): "\\r", ord("\t"): "\\t"}
 
 
 def plain(text: str) -> str:
-    """The text with an escape for each character that controls a terminal or is invisible: control characters, including those from 0x80 to 0x9f,
-    marks that change the writing direction, unusual spaces, and bytes that aren't UTF-8."""
+    """The text with an escape for each character that controls a terminal or is invisible: control characters,
+    including those from 0x80 to 0x9f, marks that change the writing direction, unusual spaces, and bytes that aren't
+    UTF-8."""
     return text if text.isprintable() else "".join(map(_shown, text))
 
 

@@ -70,8 +70,8 @@ def write_page(shown: PageSources, path: str, window: Window | None = None) -> D
 
 
 def write_page_beside(program: str, path: str, recording: Recording | None = None) -> str:
-    """Writes the page beside a recording, without a session, and returns the page's path. `recording` is the file's text
-    with netrev's changes, if they are known. Raises an OSError or a NetrevError if that fails."""
+    """Writes the page beside a recording, without a session, and returns the page's path. `recording` is the file's
+    text with netrev's changes, if they are known. Raises an OSError or a NetrevError if that fails."""
     interrupts, beside = Interrupts(), str(Path(path).with_suffix(".html"))
     recording = recording or read_with_changes(program, path)
     assert recording.changes is not None

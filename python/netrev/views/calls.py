@@ -82,7 +82,8 @@ def _rest(count: int, shown: int, name: str, line: str, subject: Subject, positi
     """The line that says how many rows are omitted, or that there are none."""
     if shown < count:
         return f"{count - shown} earlier ones: {line} all"
-    return "" if count else f"no {name} of {subject} up to position {position}"
+    owner = f" of {subject}" if subject.name else ""
+    return "" if count else f"no {name}{owner} up to position {position}"
 
 
 def calls_table(recording: Recording, subject: Subject, position: int, most: int | None) -> Table:

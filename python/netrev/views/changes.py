@@ -1,5 +1,5 @@
-"""The changes of cells: `history CELL`, the changes at which a watch hits, and those that the last step made to goroutines,
-sockets, descriptors, the clock and the counts."""
+"""The changes of cells: `history CELL`, the changes at which a watch hits, and those that the last step made to
+goroutines, sockets, descriptors, the clock and the counts."""
 
 from collections.abc import Collection, Iterator, Sequence
 from itertools import islice

@@ -1,5 +1,5 @@
-"""The program that reads source lines, Go's own `addr2line`. Up to Go 1.24 it comes with Go. Later releases build the program on first
-use, so netrev-go builds it once for each release, before the first recording, and stores it."""
+"""The program that reads source lines, Go's own `addr2line`. Up to Go 1.24 it comes with Go. Later releases build the
+program on first use, so netrev-go builds it once for each release, before the first recording, and stores it."""
 
 from __future__ import annotations
 
@@ -29,7 +29,8 @@ def kept(go: Go) -> pathlib.Path:
 
 
 def line_reader(go: Go) -> list[str]:
-    """The command that reads lines: Go's own program, or the program that netrev-go built; if neither exists, `go tool` builds it now."""
+    """The command that reads lines: Go's own program, or the program that netrev-go built; if neither exists, `go tool`
+    builds it now."""
     for path in (shipped(go), kept(go)):
         if path.exists():
             return [str(path)]

@@ -1,5 +1,5 @@
-"""Lets repeated test runs skip the linker: its output is stored under Go's ID for it, which depends on all inputs, and copied instead of
-linking again. Everything else, and the output, stays as Go makes it."""
+"""Lets repeated test runs skip the linker: its output is stored under Go's ID for it, which depends on all inputs, and
+copied instead of linking again. Everything else, and the output, stays as Go makes it."""
 
 from __future__ import annotations
 

@@ -1,5 +1,5 @@
-"""The folder into which a run's programs write their logs: its owner, the processes that couldn't be recorded, and the folders left by a
-netrev-go that was killed."""
+"""The folder into which a run's programs write their logs: its owner, the processes that couldn't be recorded, and the
+folders left by a netrev-go that was killed."""
 
 from __future__ import annotations
 
@@ -101,7 +101,8 @@ class LeftRun:
 
 
 def left_runs() -> list[LeftRun]:
-    """The runs that are left, oldest first: this user's runs that no netrev-go owns and whose logs no program still writes."""
+    """The runs that are left, oldest first: this user's runs that no netrev-go owns and whose logs no program still
+    writes."""
     folders = [folder for place in places() for folder in pathlib.Path(place).glob(PREFIX + "*")]
     return sorted(filter(None, map(left_run, folders)), key=lambda run: run.began)
 

@@ -49,7 +49,8 @@ def limits_of(options: argparse.Namespace) -> RunLimits:
 
 
 def shell_status(status: int) -> int:
-    """The exit status as a shell reports it: the command's own status, or a status for the signal that ended the command."""
+    """The exit status as a shell reports it: the command's own status, or a status for the signal that ended the
+    command."""
     return status if status >= 0 else 128 - status
 
 
@@ -61,7 +62,8 @@ def relative_to_folder(words: list[str], more: list[str]) -> list[str]:
 
 
 def places() -> list[str]:
-    """The folders to try for logs: the folder that NETREV_LOGS names, or otherwise a folder in memory and a folder below TMPDIR."""
+    """The folders to try for logs: the folder that NETREV_LOGS names, or otherwise a folder in memory and a folder
+    below TMPDIR."""
     given = os.environ.get("NETREV_LOGS")
     return [given] if given else [IN_MEMORY, tempfile.gettempdir()]
 
@@ -143,8 +145,8 @@ def send(log: pathlib.Path, number: signal.Signals) -> None:
 
 
 class GoRunner:
-    """Go's command, and the programs that it starts. Signals for netrev-go are queued until it checks them; signals for the command are
-    not queued."""
+    """Go's command, and the programs that it starts. Signals for netrev-go are queued until it checks them; signals for
+    the command are not queued."""
 
     def __init__(self, command: list[str], folder: pathlib.Path, limits: RunLimits, delays: int = 0) -> None:
         self.folder, self.limits = folder, limits
@@ -168,8 +170,8 @@ class GoRunner:
         return self.process.returncode
 
     def finish_first(self) -> None:
-        """Prepares for the conversion of logs, which only Ctrl-C stops. The other signals stay blocked, also in the child processes that
-        convert logs."""
+        """Prepares for the conversion of logs, which only Ctrl-C stops. The other signals stay blocked, also in the
+        child processes that convert logs."""
         signal.signal(signal.SIGUSR1, signal.SIG_IGN)
         signal.signal(signal.SIGINT, signal.default_int_handler)
         signal.pthread_sigmask(signal.SIG_UNBLOCK, (signal.SIGINT, signal.SIGUSR1))
@@ -189,8 +191,8 @@ class GoRunner:
             self.pass_on(number)
 
     def pass_on(self, number: signal.Signals) -> None:
-        """Sends a signal to the programs, and to Go. SIGHUP would end Go while a program might keep running, so Go gets it only if no
-        program runs."""
+        """Sends a signal to the programs, and to Go. SIGHUP would end Go while a program might keep running, so Go gets
+        it only if no program runs."""
         programs = still_written(self.folder)
         for log in programs:
             send(log, number)
@@ -220,7 +222,8 @@ def is_leader() -> bool:
 
 
 def log_of_process(process: int) -> pathlib.Path:
-    """The log that a running process writes. A process that was just started may not have a log yet, so this waits for a second."""
+    """The log that a running process writes. A process that was just started may not have a log yet, so this waits for
+    a second."""
     until = time.monotonic() + STARTING
     while True:
         log = mapped_log(process)

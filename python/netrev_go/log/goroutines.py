@@ -1,5 +1,6 @@
-"""All goroutines of a log, including those without sockets: where each waits outside the poller and on what object, which goroutine started
-it, when it ends, and what it did with channels. Goroutines have Go's own numbers here, as in Go's stack dumps."""
+"""All goroutines of a log, including those without sockets: where each waits outside the poller and on what object,
+which goroutine started it, when it ends, and what it did with channels. Goroutines have Go's own numbers here, as in
+Go's stack dumps."""
 
 from __future__ import annotations
 
@@ -54,8 +55,8 @@ class At(NamedTuple):
 
 
 class LoggedPark(NamedTuple):
-    """A wait outside the poller: the goroutine, the steps after which it begins and ends, both times, the reason, the stack, the goroutine
-    that ended it (0 if unknown), the objects, and the end of a sleep (0 if unknown)."""
+    """A wait outside the poller: the goroutine, the steps after which it begins and ends, both times, the reason, the
+    stack, the goroutine that ended it (0 if unknown), the objects, and the end of a sleep (0 if unknown)."""
 
     goroutine: int
     first: int
@@ -78,8 +79,8 @@ class Born(NamedTuple):
 
 
 class LoggedTimer(NamedTuple):
-    """A timer that a goroutine made, reset or stopped: its channel's address (0 if it calls a function), the goroutine, the stack,
-    the step before, the time, and when it was due (NEVER if it was stopped)."""
+    """A timer that a goroutine made, reset or stopped: its channel's address (0 if it calls a function), the goroutine,
+    the stack, the step before, the time, and when it was due (NEVER if it was stopped)."""
 
     address: int
     goroutine: int
@@ -118,8 +119,8 @@ class LoggedChannel(NamedTuple):
 
 
 class LoggedMutex(NamedTuple):
-    """A mutex that is locked when the log ends: its address, the goroutine that locked it, whether it is locked for reading, the goroutine's
-    stack, and the last step before it was locked."""
+    """A mutex that is locked when the log ends: its address, the goroutine that locked it, whether it is locked for
+    reading, the goroutine's stack, and the last step before it was locked."""
 
     address: int
     goroutine: int
@@ -129,8 +130,8 @@ class LoggedMutex(NamedTuple):
 
 
 class LoggedDial(NamedTuple):
-    """A dial that failed: the goroutine, the stack, the step before, the time, the error, the address as the recorder packs it, and
-    the channel of its context (0 if it has none)."""
+    """A dial that failed: the goroutine, the stack, the step before, the time, the error, the address as the recorder
+    packs it, and the channel of its context (0 if it has none)."""
 
     goroutine: int
     stack: int
@@ -143,9 +144,9 @@ class LoggedDial(NamedTuple):
 
 @dataclass
 class Goroutines:
-    """The log's facts about all goroutines. Waits are in the order in which they begin. A channel is known by its address, or, if
-    it was made at an older channel's address, by a key of its own. `held` is None if the log doesn't say which mutexes are
-    locked."""
+    """The log's facts about all goroutines. Waits are in the order in which they begin. A channel is known by its
+    address, or, if it was made at an older channel's address, by a key of its own. `held` is None if the log doesn't
+    say which mutexes are locked."""
 
     parks: list[LoggedPark] = field(default_factory=list)
     finished: list[int] = field(default_factory=list)  # the indices of those that ended, in the order of their ends
@@ -191,7 +192,8 @@ class Goroutines:
 
 
 def objects_of(what: int, at: int, b: int, c: int) -> tuple[At, ...]:
-    """The objects of a PARKS or CASES point: one object, or up to three channels of a select, each with two bits for its use."""
+    """The objects of a PARKS or CASES point: one object, or up to three channels of a select, each with two bits for
+    its use."""
     if not at:
         return ()
     use = what & 255
@@ -293,7 +295,8 @@ class Passing:
         )
 
     def _parks(self, point: Point, step: int, time: int) -> None:
-        """Records that a goroutine begins to wait. If it is already waiting, the log was damaged, and the earlier wait lasts to the end."""
+        """Records that a goroutine begins to wait. If it is already waiting, the log was damaged, and the earlier wait
+        lasts to the end."""
         _, _, g, at, a, b, c, _, stack = point
         what = a & 255
         self._ready.pop(g, None)
@@ -349,8 +352,8 @@ class Passing:
 def goroutines_of(
     points: Iterable[Point], steps: list[Made], begin: int, holders: list[LoggedHolder] | None = None
 ) -> Goroutines:
-    """All goroutines, from the points about them and the locked mutexes. `steps` has the steps of each point, in the order of the
-    points."""
+    """All goroutines, from the points about them and the locked mutexes. `steps` has the steps of each point, in the
+    order of the points."""
     passing = Passing(begin)
     pass_point = passing.point
     following = iter((*steps, BEHIND))

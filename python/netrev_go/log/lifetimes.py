@@ -1,5 +1,5 @@
-"""The lifetimes of goroutines: a recording has room for a limited number at once, because a goroutine that has ended hands its number to
-the next one."""
+"""The lifetimes of goroutines: a recording has room for a limited number at once, because a goroutine that has ended
+hands its number to the next one."""
 
 from __future__ import annotations
 

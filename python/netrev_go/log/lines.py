@@ -1,4 +1,5 @@
-"""Source lines for the addresses of a program, by Go's `addr2line`, which finds lines even in a program without symbols."""
+"""Source lines for the addresses of a program, by Go's `addr2line`, which finds lines even in a program without
+symbols."""
 
 from __future__ import annotations
 
@@ -34,8 +35,9 @@ class Calls(NamedTuple):
 
 
 def shift(program: pathlib.Path, text: int) -> int | None:
-    """The distance of the program's code from the addresses that `addr2line` expects: `addr2line` counts from the section .text, which may
-    begin with C code, and a program may be loaded anywhere. None if the file has no such section."""
+    """The distance of the program's code from the addresses that `addr2line` expects: `addr2line` counts from the
+    section .text, which may begin with C code, and a program may be loaded anywhere. None if the file has no such
+    section."""
     with program.open("rb") as file:
         data = file.read()
     if data[:4] != b"\x7fELF" or len(data) < ELF_HEADER:
@@ -77,7 +79,8 @@ def replaced_file(file: str) -> str:
 
 
 class SourceRoots:
-    """Decides to whom a file belongs: files below Go's own folders are Go's, and files below a library's folder are the library's."""
+    """Decides to whom a file belongs: files below Go's own folders are Go's, and files below a library's folder are the
+    library's."""
 
     def __init__(self, sources: pathlib.Path, here: pathlib.Path) -> None:
         self.sources = {str(sources) + "/", os.path.realpath(sources) + "/"}
@@ -85,8 +88,8 @@ class SourceRoots:
         self.here = str(here) + "/"
 
     def call(self, function: str, file: str, line: int) -> LineCall:
-        """Makes a call. A file of Go's own is named by its package and file name, a file of the program by its path relative to
-        the command's folder."""
+        """Makes a call. A file of Go's own is named by its package and file name, a file of the program by its path
+        relative to the command's folder."""
         for root in self.sources:
             if file.startswith(root):
                 return LineCall(function, file.removeprefix(root), line, OF_GO)
@@ -123,7 +126,8 @@ def outside_the_runtime(calls: list[LineCall]) -> tuple[LineCall, ...]:
 def lines_of(
     log: Log, used: set[int], program: pathlib.Path, reader: list[str], roots: SourceRoots
 ) -> dict[int, Calls]:
-    """The calls of the used stacks, found by the `reader` command; empty if the program is missing or has no line table."""
+    """The calls of the used stacks, found by the `reader` command; empty if the program is missing or has no line
+    table."""
     stacks: dict[int, PointStack] = {number: log.stacks[number] for number in used if number in log.stacks}
     try:
         moved = shift(program, log.text)

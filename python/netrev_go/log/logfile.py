@@ -1,5 +1,5 @@
-"""Reads the log of a process (go/log/runtime.go describes the format). A log may be incomplete, because its process was killed or
-is still running. Complete points are used, and notes say what is missing."""
+"""Reads the log of a process (go/log/runtime.go describes the format). A log may be incomplete, because its process was
+killed or is still running. Complete points are used, and notes say what is missing."""
 
 from __future__ import annotations
 
@@ -99,7 +99,8 @@ def stack_at(file: BinaryIO, number: int) -> PointStack | None:
 
 
 def read_holders(file: BinaryIO, count: int, stacks: dict[int, PointStack]) -> list[LoggedHolder]:
-    """The table of locked mutexes, which has this many rows. Their stacks are added to the stacks of points, with numbers of their own."""
+    """The table of locked mutexes, which has this many rows. Their stacks are added to the stacks of points, with
+    numbers of their own."""
     found: dict[tuple[int, int], LoggedHolder] = {}
     for row in range(count):
         text = file.read(HOLDER_BYTES)
@@ -120,9 +121,8 @@ def read_holders(file: BinaryIO, count: int, stacks: dict[int, PointStack]) -> l
 
 
 def whole_points(file: BinaryIO, header: Header) -> tuple[list[Point], int]:
-    """The complete points, ordered by number, and the number of places in the ring. The ring is read piece by piece, because a file with
-    holes
-    is mostly empty."""
+    """The complete points, ordered by number, and the number of places in the ring. The ring is read piece by piece,
+    because a file with holes is mostly empty."""
     ring = header.ring
     held = (file.seek(0, 2) - ring) // POINT_BYTES
     held = max(0, min(held, header.passed, header.points))
@@ -146,8 +146,8 @@ def whole_points(file: BinaryIO, header: Header) -> tuple[list[Point], int]:
 
 
 def with_first_times(points: list[Point]) -> list[Point]:
-    """The points. If the first points have no time, they get the time of the next point with a time, because the point before them is
-    lost."""
+    """The points. If the first points have no time, they get the time of the next point with a time, because the point
+    before them is lost."""
     untimed = len(list(takewhile(lambda point: point.time == UNKNOWN, points)))
     if untimed in (0, len(points)):
         return points
@@ -159,9 +159,8 @@ made = cast(Callable[[tuple[int, ...]], Point], partial(tuple.__new__, Point))
 
 
 def points_of(text: bytes, first: int, latest: int = NEVER) -> list[Point]:
-    """The complete points of a part of the ring, whose first point has this number. Points without a time get the previous point's, if
-    the
-    `latest` time before them is known. (Column by column, because there may be millions.)"""
+    """The complete points of a part of the ring, whose first point has this number. Points without a time get the
+    previous point's, if the `latest` time before them is known. (Column by column, because there may be millions.)"""
     signed = array("q", text)
     heads, *columns, lasts = (signed[column::POINT_WORDS] for column in range(POINT_WORDS))
     numbers = range(first, first + len(heads))
@@ -197,7 +196,8 @@ def timed(times: array[int], latest: int) -> Iterable[int]:
 
 
 def are_whole(first: int, heads: array[int], columns: list[array[int]], lasts: array[int]) -> bool:
-    """Whether all these points are complete. Each column is tested as one large number, which is much faster than point by point."""
+    """Whether all these points are complete. Each column is tested as one large number, which is much faster than point
+    by point."""
     kinds, low, ones, counted = masks(len(heads))
     total = counted + first * ones
     if as_one(heads) & ~kinds != total + ones << 8:
@@ -209,8 +209,8 @@ def are_whole(first: int, heads: array[int], columns: list[array[int]], lasts: a
 
 @lru_cache(2)
 def masks(count: int) -> tuple[int, int, int, int]:
-    """Masks for this many words, each as one large number: the lowest byte of each word, the lower half of each, a one in each, and in each
-    word its index."""
+    """Masks for this many words, each as one large number: the lowest byte of each word, the lower half of each, a one
+    in each, and in each word its index."""
     kinds, low, ones = (as_one(array("Q", (word,)) * count) for word in (255, LOW, 1))
     return kinds, low, ones, as_one(array("Q", range(count)))
 
@@ -251,7 +251,8 @@ def uncopied(path: pathlib.Path) -> str:
 
 
 def copy_of(file: BinaryIO) -> BinaryIO:
-    """A copy of a growing log: the ring first, after the header, because new points replace the oldest. The other parts only grow."""
+    """A copy of a growing log: the ring first, after the header, because new points replace the oldest. The other parts
+    only grow."""
     room = bytearray(os.fstat(file.fileno()).st_size)
     room[::PAGE] = bytes(len(room[::PAGE]))  # (otherwise the system would allocate each page while the ring is copied)
     view = memoryview(room)

@@ -1,6 +1,6 @@
-"""The recorder's notes of sockets that were open before the oldest point in the log (go/log/notes.go writes them): the state of the
-lock word and of the descriptor, the goroutines that waited there, each with its stage of the wait, and the goroutines that were using the
-socket."""
+"""The recorder's notes of sockets that were open before the oldest point in the log (go/log/notes.go writes them): the
+state of the lock word and of the descriptor, the goroutines that waited there, each with its stage of the wait, and the
+goroutines that were using the socket."""
 
 from __future__ import annotations
 
@@ -60,8 +60,8 @@ class Queued(NamedTuple):
 
 @dataclass
 class Note:
-    """A noted socket, with what later points show about it: which goroutine releases a lock or a reference that it had when the socket was
-    noted."""
+    """A noted socket, with what later points show about it: which goroutine releases a lock or a reference that it had
+    when the socket was noted."""
 
     number: int  # of the point
     word: int
@@ -100,7 +100,8 @@ class Note:
         return {*self.holders.values(), *self.references, self.evicter} - {0}
 
     def waits_to_write(self) -> bool:
-        """Whether a goroutine waits inside a write. A goroutine that waits for a connection doesn't count, because it has no lock."""
+        """Whether a goroutine waits inside a write. A goroutine that waits for a connection doesn't count, because it
+        has no lock."""
         return WRITING in self.inside and self.is_taken(WRITING)
 
     def field(self, place: tuple[int, int]) -> int:
@@ -124,8 +125,8 @@ def side_of(mode: int) -> int:
 
 
 class Debts:
-    """Finds which goroutines had a socket's locks and references when it was noted. Such a goroutine later releases a lock or
-    reference that it hasn't acquired after the note."""
+    """Finds which goroutines had a socket's locks and references when it was noted. Such a goroutine later releases a
+    lock or reference that it hasn't acquired after the note."""
 
     def __init__(self, note: Note) -> None:
         self.note = note

@@ -1,5 +1,6 @@
-"""The orders between steps that the program itself enforces: by `go` statements, channels, and wake-ups, such as those of a
-mutex, a condition or a WaitGroup. They may also pass through goroutines without steps. If a lock was free, no order is known."""
+"""The orders between steps that the program itself enforces: by `go` statements, channels, and wake-ups, such as those
+of a mutex, a condition or a WaitGroup. They may also pass through goroutines without steps. If a lock was free, no
+order is known."""
 
 from __future__ import annotations
 
@@ -18,8 +19,8 @@ Frontier = dict[int, int]  # for each goroutine, its last step that precedes oth
 
 
 class ValueQueue:
-    """The steps that precede each value in a queue. The first values may be unknown and are only counted, because a channel's capacity
-    isn't known."""
+    """The steps that precede each value in a queue. The first values may be unknown and are only counted, because a
+    channel's capacity isn't known."""
 
     def __init__(self) -> None:
         self._unknown = 0
@@ -29,7 +30,8 @@ class ValueQueue:
         return self._unknown + len(self._known)
 
     def fit(self, length: int) -> None:
-        """Sets the length, which may differ because another channel may have been at this address, or because the log begins later."""
+        """Sets the length, which may differ because another channel may have been at this address, or because the log
+        begins later."""
         while len(self._known) > length:
             self._known.popleft()
         self._unknown = length - len(self._known)
@@ -115,8 +117,8 @@ Made = tuple[int, int, int]  # a step of a goroutine: the number of its point, t
 
 
 def orders_of(points: Iterable[Point], steps: Iterable[Made]) -> list[tuple[int, int]]:
-    """Pairs of steps whose first step precedes the second in every run, sorted by the second. Points and steps are given in the points'
-    order."""
+    """Pairs of steps whose first step precedes the second in every run, sorted by the second. Points and steps are
+    given in the points' order."""
     orders = Orders()
     ordering = iter(points)
     point = next(ordering, END)

@@ -49,8 +49,8 @@ def lock_answer(kind: int, was_closed: bool, bits: int) -> str:
 
 
 def can_answer(socket: LoggedSocket, point: Point) -> bool:
-    """Whether the machine has an answer for the result of a read or a write. The machine has no answer for most errors, for an EPIPE that
-    the other end caused, and for an output that is full of unrecorded bytes."""
+    """Whether the machine has an answer for the result of a read or a write. The machine has no answer for most errors,
+    for an EPIPE that the other end caused, and for an output that is full of unrecorded bytes."""
     if point.b > 0:
         return True
     if point.c == AGAIN:

@@ -73,8 +73,8 @@ class PointKind(IntEnum):
 KINDS = frozenset(map(int, PointKind))
 # Points at which the program itself puts goroutines in order; they belong to no socket.
 ORDERING = frozenset(range(PointKind.READY, PointKind.FOUND_CLOSED + 1)) | {int(PointKind.HANDED)}
-# Points at which a goroutine begins to wait outside the poller, continues, gets a value that it waits for, makes or stops
-# a timer, adds to a WaitGroup, makes a channel, fails to connect a socket, or ends.
+# Points at which a goroutine begins to wait outside the poller, continues, gets a value that it waits for, makes or
+# stops a timer, adds to a WaitGroup, makes a channel, fails to connect a socket, or ends.
 WAITING = frozenset(range(PointKind.PARKS, PointKind.DIAL_FAILED + 1))
 # Points that note the state of a socket that may have been opened before the oldest point.
 NOTING = frozenset(range(PointKind.NOTED, PointKind.NOTED_NAMED + 1))
@@ -92,8 +92,8 @@ AT_A_WORD = LOCKING | set(
 
 
 class Point(NamedTuple):
-    """A point, with the goroutine that logged it (0 if none did), its kind, its address, the values there, the time if Go's clock was
-    read, and the number of its stack (0 if it has no stack)."""
+    """A point, with the goroutine that logged it (0 if none did), its kind, its address, the values there, the time if
+    Go's clock was read, and the number of its stack (0 if it has no stack)."""
 
     number: int
     kind: int
@@ -112,8 +112,8 @@ NUMBER, KIND, GOROUTINE, TIME = (
 
 
 class PointStack(NamedTuple):
-    """The return addresses of the calls, innermost first; then the address of the `go` statement that started the goroutine, and the
-    address of the goroutine's function."""
+    """The return addresses of the calls, innermost first; then the address of the `go` statement that started the
+    goroutine, and the address of the goroutine's function."""
 
     made: int
     started: int
@@ -121,8 +121,8 @@ class PointStack(NamedTuple):
 
 
 class LoggedHolder(NamedTuple):
-    """A mutex that was locked when the log ended: its address, the goroutine that had locked it, whether for reading, how many points had
-    been logged by then, and the stack from which it was locked (0 if unknown)."""
+    """A mutex that was locked when the log ended: its address, the goroutine that had locked it, whether for reading,
+    how many points had been logged by then, and the stack from which it was locked (0 if unknown)."""
 
     address: int
     goroutine: int

@@ -3,23 +3,24 @@ run.
 
 These states can be reached:
 
-- Any lock word whose holders are known: a goroutine that has a lock or a reference releases it later in the log, or is inside the wait of
-that side. Goroutines that wait for a lock are queued in the order in which they came.
+- Any lock word whose holders are known: a goroutine that has a lock or a reference releases it later in the log, or is
+  inside the wait of that side. Goroutines that wait for a lock are queued in the order in which they came.
 - Each stage of a wait, and each value of the wait word: nil, ready, wait or the goroutine. A woken goroutine first
-parks, and then an event, a past deadline or the close wakes it.
-- Future deadlines, deadlines that passed while their timers run, and deadlines set in the past; also one timer for both sides.
-- Go's sequences and tags may be in the millions, but the machine counts its own from the beginning. So an event names the use of its
-descriptor, and a firing names its timer, and neither has Go's number.
-- Bytes aren't known. The input is empty, because bytes arrive just before the read that gets them; the output is full if a goroutine waits
-  to write there, or if a write finds it full later.
+  parks, and then an event, a past deadline or the close wakes it.
+- Future deadlines, deadlines that passed while their timers run, and deadlines set in the past; also one timer for both
+  sides.
+- Go's sequences and tags may be in the millions, but the machine counts its own from the beginning. So an event names
+  the use of its descriptor, and a firing names its timer, and neither has Go's number.
+- Bytes aren't known. The input is empty, because bytes arrive just before the read that gets them; the output is full
+  if a goroutine waits to write there, or if a write finds it full later.
 
 A socket is left out, with the reason, if one of these holds:
 
 - A goroutine is about to pass one of the socket's locks to another goroutine.
 - A goroutine has one of the socket's locks or references, and the log doesn't show the release.
 - One of the socket's timers is due and hasn't run.
-- The steps don't lead to the noted state. The model in Python runs each socket's steps, and the resulting state is compared with the whole
-note.
+- The steps don't lead to the noted state. The model in Python runs each socket's steps, and the resulting state is
+  compared with the whole note.
 """
 
 from __future__ import annotations
@@ -74,8 +75,8 @@ class UnreachableStateError(NetrevError):
 
 
 class Lead(NamedTuple):
-    """A step that leads to the state: its kind, the goroutine by Go's number, the other arguments, the answer, and the stack. A deadline is
-    a time on Go's clock."""
+    """A step that leads to the state: its kind, the goroutine by Go's number, the other arguments, the answer, and the
+    stack. A deadline is a time on Go's clock."""
 
     kind: str
     goroutine: int
@@ -288,7 +289,8 @@ def _steps(leads: list[Lead], numbers: dict[int, int], begin: int) -> Iterator[t
 
 
 def relative(deadline: int, begin: int, clock: int) -> int:
-    """The argument of a step for a deadline in Go's time. Raises UnreachableStateError if the deadline is no longer in the future."""
+    """The argument of a step for a deadline in Go's time. Raises UnreachableStateError if the deadline is no longer in
+    the future."""
     if deadline <= 0 or deadline == GREATEST_TIME:
         return deadline
     time = deadline - begin - clock

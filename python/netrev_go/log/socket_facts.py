@@ -1,4 +1,5 @@
-"""A log's facts about sockets that aren't steps: which two sockets are the ends of one connection, and system errors without a step."""
+"""A log's facts about sockets that aren't steps: which two sockets are the ends of one connection, and system errors
+without a step."""
 
 from __future__ import annotations
 
@@ -35,8 +36,8 @@ def address_words(packed: int) -> str:
 
 @dataclass
 class Beside:
-    """Facts for NAME.where: pairs of sockets that are the ends of one connection, the names of both ends, the step after which a goroutine
-    got an error, and waits outside the poller."""
+    """Facts for NAME.where: pairs of sockets that are the ends of one connection, the names of both ends, the step
+    after which a goroutine got an error, and waits outside the poller."""
 
     peers: list[tuple[int, int]] = field(default_factory=list)
     errors: list[tuple[int, str]] = field(default_factory=list)
@@ -55,8 +56,8 @@ class Beside:
     _ends: dict[tuple[int, int], list[int]] = field(default_factory=dict)
 
     def named(self, socket: int, point: Point, step: int = 0) -> None:
-        """Records a socket's own name and the other end's; a newer name replaces an older name. For a datagram socket, records its
-        addresses, or the step after which a datagram is sent."""
+        """Records a socket's own name and the other end's; a newer name replaces an older name. For a datagram socket,
+        records its addresses, or the step after which a datagram is sent."""
         if point.c == OF_DATAGRAMS:
             self.addresses.append((socket, address_words(point.a), address_words(point.b)))
         elif point.c == GOES_TO:
@@ -81,8 +82,9 @@ class Beside:
         self._unix.setdefault(path, ([], []))[is_dialed].append((socket, point.goroutine))
 
     def pair_unix(self) -> None:
-        """Pairs the ends of connections to a Unix path. If one goroutine dialed them all and one goroutine accepted them all, the first
-        dialed socket belongs to the first accepted socket, and so on. Otherwise their order isn't known."""
+        """Pairs the ends of connections to a Unix path. If one goroutine dialed them all and one goroutine accepted
+        them all, the first dialed socket belongs to the first accepted socket, and so on. Otherwise their order isn't
+        known."""
         for accepted, dialed in self._unix.values():
             if len({goroutine for _, goroutine in accepted}) == len({goroutine for _, goroutine in dialed}) == 1:
                 self.peers += [(one, other) for (one, _), (other, _) in zip(dialed, accepted)]

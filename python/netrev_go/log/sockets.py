@@ -79,8 +79,8 @@ class LoggedSocket:
     whole: dict[int, int] = field(default_factory=dict)
 
     def capacity(self) -> int:
-        """The capacity of its output, at most BUFFER: large enough to be full exactly when Go first found it full, or otherwise to hold
-        the largest write."""
+        """The capacity of its output, at most BUFFER: large enough to be full exactly when Go first found it full, or
+        otherwise to hold the largest write."""
         return self.full_at or self.largest
 
 
@@ -124,15 +124,16 @@ class Owners:
         return uses[-1]
 
     def not_opened(self, socket: LoggedSocket) -> LoggedSocket:
-        """Marks a socket as rejected by the poller. If an earlier socket with the same lock word is still open, that socket continues."""
+        """Marks a socket as rejected by the poller. If an earlier socket with the same lock word is still open, that
+        socket continues."""
         socket.failed = True
         if socket.before and not socket.before.closed:
             self.words[socket.word] = socket.before
         return socket
 
     def note(self, point: Point) -> LoggedSocket | None:
-        """Reads one of a note's points. Returns the note's socket if this is the note's first point and the socket isn't known yet, or if
-        this is a point with the socket's names."""
+        """Reads one of a note's points. Returns the note's socket if this is the note's first point and the socket
+        isn't known yet, or if this is a point with the socket's names."""
         kind, at = point.kind, point.at
         if kind == NOTED:
             known = self.words.get(at)
@@ -196,7 +197,8 @@ def of_few(point: Point) -> Point:
 
 
 def points_of_call(point: Point, socket: LoggedSocket) -> list[tuple[Point, LoggedSocket]]:
-    """The three points of a call that sets a deadline: it takes a reference to the socket, sets the deadline, and drops the reference."""
+    """The three points of a call that sets a deadline: it takes a reference to the socket, sets the deadline, and drops
+    the reference."""
     number, _, g, at, mode, deadline, state, time, stack = point
     held, word = state + REFERENCE, socket.word
     return [
@@ -263,9 +265,9 @@ class Owned:
     cut: int  # how many reads and writes are recorded with fewer bytes than they moved
 
     def began(self) -> dict[int, int]:
-        """For each goroutine, the number of its first point. If a note says that the goroutine waited for a socket or was using it, the
-        note's number counts too; the smaller number is returned. (The points are read from the last to the first, so that the first one
-        wins. No loop is used, because there may be a million points.)"""
+        """For each goroutine, the number of its first point. If a note says that the goroutine waited for a socket or
+        was using it, the note's number counts too; the smaller number is returned. (The points are read from the last
+        to the first, so that the first one wins. No loop is used, because there may be a million points.)"""
         points = list(map(POINT, reversed(self.points)))
         began = dict(zip(map(GOROUTINE, points), map(NUMBER, points)))
         for note in (socket.note for socket in self.sockets if socket.note):
@@ -317,8 +319,8 @@ def owned(points: list[Point], all_bytes: bool = True) -> Owned:
 
 
 def lead_to(sockets: list[LoggedSocket], begin: int) -> dict[str, int]:
-    """Finds the steps that lead to noted sockets. If no steps lead to a socket, it is left out; returns the reasons, each with the number
-    of such sockets."""
+    """Finds the steps that lead to noted sockets. If no steps lead to a socket, it is left out; returns the reasons,
+    each with the number of such sockets."""
     left_out: Counter[str] = Counter()
     for socket in [socket for socket in sockets if socket.note]:
         assert socket.note
@@ -340,9 +342,9 @@ def chosen(
     at_once: Callable[[set[int]], int] = len,
     first: int = 0,
 ) -> set[LoggedSocket]:
-    """The sockets that fit into a recording of this many steps: the open ones first, and within each group the newest; before all
-    others, the socket whose lock word has the address `first`. `at_once` gives the number of goroutines that exist at one
-    time."""
+    """The sockets that fit into a recording of this many steps: the open ones first, and within each group the newest;
+    before all others, the socket whose lock word has the address `first`. `at_once` gives the number of goroutines that
+    exist at one time."""
     kept: set[LoggedSocket] = set()
     goroutines: set[int] = set()
     steps, text = 0, 0

@@ -1,5 +1,5 @@
-"""The time of each step: its point's time, or, for a step without a point, such as arriving bytes, the time of the point for which it was
-made."""
+"""The time of each step: its point's time, or, for a step without a point, such as arriving bytes, the time of the
+point for which it was made."""
 
 from __future__ import annotations
 
@@ -16,9 +16,9 @@ A_TIME = re.compile(r"([0-9]{1,9}(?:\.[0-9]{1,3})?)(ms|s|m|h|)\Z")
 
 
 def times_of(points: Iterable[Point], ended: list[int], begin: int) -> list[int] | None:
-    """For each step, the nanoseconds since the log began. A counter orders the points, and each point reads the clock just after
-    taking its number. So a time may be slightly less than the previous point's; the previous time is used then. None if a point has no
-    time, as in older logs."""
+    """For each step, the nanoseconds since the log began. A counter orders the points, and each point reads the clock
+    just after taking its number. So a time may be slightly less than the previous point's; the previous time is used
+    then. None if a point has no time, as in older logs."""
     times: list[int] = []
     latest, step = begin, 0
     for time, behind in zip(map(TIME, points), ended):

@@ -1,5 +1,5 @@
-"""The waits of recorded goroutines outside the poller, on a channel, a select, a mutex, a condition or a WaitGroup. A wait counts only if
-a step of the recording comes during it."""
+"""The waits of recorded goroutines outside the poller, on a channel, a select, a mutex, a condition or a WaitGroup. A
+wait counts only if a step of the recording comes during it."""
 
 from __future__ import annotations
 
@@ -12,8 +12,8 @@ WAITED_FOR = ("", "a value from a channel", "room in a channel", "a select", "a 
 
 
 class LoggedWait(NamedTuple):
-    """A wait: the steps after which it begins and ends (0 if the recording ends first), the goroutine, the reason, the stack, and the
-    goroutine that ended it (-1 if it isn't in the recording)."""
+    """A wait: the steps after which it begins and ends (0 if the recording ends first), the goroutine, the reason, the
+    stack, and the goroutine that ended it (-1 if it isn't in the recording)."""
 
     first: int
     last: int
@@ -24,9 +24,9 @@ class LoggedWait(NamedTuple):
 
 
 def waits_of(found: Goroutines, numbers: dict[int, int], since: Mapping[int, int] = {}) -> list[LoggedWait]:
-    """The waits in the order of their ends; those that don't end come last. `numbers` has the recording's numbers of goroutines. `since`
-    has the step after which a goroutine took over another goroutine's number. Waits before that step are left out, because they would be
-    attributed to the other goroutine."""
+    """The waits in the order of their ends; those that don't end come last. `numbers` has the recording's numbers of
+    goroutines. `since` has the step after which a goroutine took over another goroutine's number. Waits before that
+    step are left out, because they would be attributed to the other goroutine."""
     waits = []
     for park in (
         *(found.parks[place] for place in found.finished),

@@ -1,5 +1,6 @@
 """What netrev and the library find in a recording: whether netrev accepts it, the values at its end, the causes and the
-suspects. The library works in this process, with the changes that one run of netrev lists. The modules with the rules are imported on first use, because most runs need none."""
+suspects. The library works in this process, with the changes that one run of netrev lists. The modules with the rules
+are imported on first use, because most runs need none."""
 
 from __future__ import annotations
 
@@ -32,8 +33,8 @@ def check(netrev: str, recording: pathlib.Path) -> tuple[bool, str]:
 
 
 def outcome_of(status: int, printed: bytes, errors: bytes) -> tuple[bool, str]:
-    """Whether netrev accepts the recording, and the last line of its output; raises an OSError if netrev was killed, for example for
-    lack of memory, because that says nothing about the recording."""
+    """Whether netrev accepts the recording, and the last line of its output; raises an OSError if netrev was killed,
+    for example for lack of memory, because that says nothing about the recording."""
     if status < 0:
         raise OSError(0, messages.ENDED_BY_A_SIGNAL.format(signal=signal.Signals(-status).name))
     text = errors if status > REFUSED and errors else printed.rstrip().rpartition(b"\n")[2] or errors
@@ -56,11 +57,13 @@ class Analysis:
         self._printed.__exit__()
 
     def outcome(self) -> tuple[bool, str]:
-        """Whether netrev accepts the recording, and its last line; raises an OSError if netrev couldn't be started or was killed."""
+        """Whether netrev accepts the recording, and its last line; raises an OSError if netrev couldn't be started or
+        was killed."""
         return outcome_of(*self._printed.ended())
 
     def causes(self) -> FirstFindings:
-        """Why calls failed or hang. If netrev is slow, the library computes the changes. Raises LateError if that takes too long."""
+        """Why calls failed or hang. If netrev is slow, the library computes the changes. Raises LateError if that takes
+        too long."""
         from netrev.findings.causes.first_output import first_findings
 
         with time_limit(OF_CAUSES, messages.LATE_CAUSES), self._read() as recording:
@@ -86,8 +89,8 @@ class Analysis:
 
     @contextmanager
     def _read(self) -> Iterator[Recording]:
-        """The recording with netrev's changes, if known. It is read again after an exception, because its tables may be incomplete, and
-        after the library computed the changes."""
+        """The recording with netrev's changes, if known. It is read again after an exception, because its tables may be
+        incomplete, and after the library computed the changes."""
         recording, self.recording = self.recording, None
         if recording is None:
             recording = Recording.read(self._path)

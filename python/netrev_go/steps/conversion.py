@@ -74,10 +74,9 @@ def convert(
     hear: Hear = unheard,
     is_written: bool = False,
 ) -> Conversion:
-    """Makes the recording NAME from a log, and NAME.where beside it if Go is installed to look up lines. `known` keeps the data, because
-    freeing the data takes a long time. `hear` receives the report's lines as soon as they are known. A log that a program is still
-    writing is copied
-    first."""
+    """Makes the recording NAME from a log, and NAME.where beside it if Go is installed to look up lines. `known` keeps
+    the data, because freeing the data takes a long time. `hear` receives the report's lines as soon as they are known.
+    A log that a program is still writing is copied first."""
     try:
         return converted(
             ReadLog(log, read_log(log, is_written), of_log(log)), name, go, options, known=known, hear=hear
@@ -142,7 +141,8 @@ def everybody_of(recording: NewRecording, found: Goroutines, calls: dict[int, Ca
 
 
 def of_tests(recording: NewRecording, tests: Tests) -> list[dict[str, object]]:
-    """More lines for NAME.where: the greatest number of bytes that a read or a write counts, and the steps between which each test ran."""
+    """More lines for NAME.where: the greatest number of bytes that a read or a write counts, and the steps between
+    which each test ran."""
     more: list[dict[str, object]] = [] if recording.bytes is None else [{"bytes": recording.bytes}]
     if recording.prelude:
         more.append({"prelude": recording.prelude})

@@ -1,6 +1,7 @@
-"""Makes the steps of a version 2 recording from points. A recorded answer is Go's own, if Go has an answer. Go doesn't see what the other
-end does, so the converter chooses those steps. Bytes arrive just before the read that gets them, and are all zeros. Written bytes are drained
-just before the write that needs the room. A socket's output is just large enough to be full when Go found it full."""
+"""Makes the steps of a version 2 recording from points. A recorded answer is Go's own, if Go has an answer. Go doesn't
+see what the other end does, so the converter chooses those steps. Bytes arrive just before the read that gets them, and
+are all zeros. Written bytes are drained just before the write that needs the room. A socket's output is just large
+enough to be full when Go found it full."""
 
 from __future__ import annotations
 
@@ -144,7 +145,8 @@ class Converter:
         self.stacks.append(0)
 
     def of(self, g: int, socket: LoggedSocket, stack: int, text: Line) -> None:
-        """Adds a step of a goroutine on a socket. If its point has no stack, the step gets the stack of the goroutine's last call on the socket."""
+        """Adds a step of a goroutine on a socket. If its point has no stack, the step gets the stack of the goroutine's
+        last call on the socket."""
         call = self.call(self.names[g], socket)
         if stack:
             call[0] = stack
@@ -212,8 +214,8 @@ class Converter:
         self.of(g, socket, point.stack, read_line(g, socket.number, point.a, answer))
 
     def write(self, point: Point, socket: LoggedSocket) -> None:
-        """Makes the steps of a write, unless they were made earlier because a closewrite overtook the write. If a noted closewrite overtook
-        the write, makes the closewrite's steps too."""
+        """Makes the steps of a write, unless they were made earlier because a closewrite overtook the write. If a noted
+        closewrite overtook the write, makes the closewrite's steps too."""
         if point.number not in self.early:
             self.make_write(point, socket)
             if closing := self.closings.get(point.number):
@@ -238,8 +240,9 @@ class Converter:
             self.of(g, socket, stack, put_line(g, number, count))
 
     def close_write(self, point: Point, socket: LoggedSocket) -> None:
-        """Closes the write side. Points are logged after their system calls, so an earlier write may have a later point. At most one
-        write can: the next write has to wait for it. That write's goroutine was already in the call before this point.
+        """Closes the write side. Points are logged after their system calls, so an earlier write may have a later
+        point. At most one write can: the next write has to wait for it. That write's goroutine was already in the call
+        before this point.
         """
         g, last = self.goroutine(point.goroutine), socket.last_write
         if last and last.number > point.number and last.number not in self.early:
@@ -253,8 +256,8 @@ class Converter:
         self.of(g, socket, 0, f'["parkcommit",{g},"{"yes" if point.b else "no"}"]')
 
     def event(self, point: Point, socket: LoggedSocket) -> None:
-        """Makes the step of an event. If the event was fetched before the descriptor was closed, it comes too late: if events have tags,
-        Go reports the event; otherwise Go ignores it for a free descriptor."""
+        """Makes the step of an event. If the event was fetched before the descriptor was closed, it comes too late: if
+        events have tags, Go reports the event; otherwise Go ignores it for a free descriptor."""
         is_stale = point.b & EVENT_STALE if point.c else not socket.is_open
         answer = "stale" if is_stale else "done"
         tag, error = socket.tag, point.b & EVENT_ERROR
@@ -310,7 +313,8 @@ class Converter:
         self.of(g, socket, stack, f'["setdeadline",{g},{number},"{mode}",{time},"done"]')
 
     def pop_what_fires(self, socket: LoggedSocket, side: int) -> None:
-        """Pops a timer before it is stopped or reset, if a later point shows that the timer fired: it had already left Go's heap."""
+        """Pops a timer before it is stopped or reset, if a later point shows that the timer fired: it had already left
+        Go's heap."""
         timer = self.deadlines.armed(socket.descriptor, side)
         if timer and (socket, side, timer.sequence + socket.sequences[side]) in self.later_fires:
             self.go_on_to(timer.due)
@@ -346,10 +350,10 @@ class Converter:
         self.beside.named(socket.number, point, self.last_steps[self.goroutine(point.goroutine)] if point.c else 0)
 
     def noted(self, point: Point, socket: LoggedSocket) -> None:
-        """Makes the steps that bring a socket into its noted state. At the first note, the clock advances to the note's time, but not past a
-        deadline that these steps will set. The steps of later notes advance the clock too. Until the last note,
-        the clock lags Go's by the time that the steps of the remaining notes will add. So deadlines set between the
-        notes equal Go's."""
+        """Makes the steps that bring a socket into its noted state. At the first note, the clock advances to the note's
+        time, but not past a deadline that these steps will set. The steps of later notes advance the clock too. Until
+        the last note, the clock lags Go's by the time that the steps of the remaining notes will add. So deadlines set
+        between the notes equal Go's."""
         if not self.clock:
             sockets = {socket for point, socket in self.points if point.kind == PointKind.NOTED}
             dues = [due - 1 for socket in sockets if socket.note for due in socket.note.deadlines if due > 0]

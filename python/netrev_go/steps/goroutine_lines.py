@@ -1,5 +1,5 @@
-"""Makes the lines of NAME.where about all goroutines (docs/reference/RECORDING.md has the format). If not all waits, uses of channels
-and goroutines fit, it chooses which to keep."""
+"""Makes the lines of NAME.where about all goroutines (docs/reference/RECORDING.md has the format). If not all waits,
+uses of channels and goroutines fit, it chooses which to keep."""
 
 from __future__ import annotations
 
@@ -89,8 +89,8 @@ def semaphore_at(what: int, found: int, calls: Calls | None) -> int:
 
 @dataclass
 class KeptData:
-    """The data to keep: waits, uses, timers, failed connects, the locked mutexes (None if unknown), and how many waits were left out, by
-    reason, stack, and whether they have ended."""
+    """The data to keep: waits, uses, timers, failed connects, the locked mutexes (None if unknown), and how many waits
+    were left out, by reason, stack, and whether they have ended."""
 
     parks: list[LoggedPark] = field(default_factory=list)
     uses: list[tuple[Used, UseSpan]] = field(default_factory=list)
@@ -101,8 +101,8 @@ class KeptData:
 
 
 def newest(waits: list[bool], most: int) -> Iterator[bool]:
-    """Whether to keep each entry of a list: first the entries that still wait, the newest `most` of them; then the newest of the rest, at most
-    a quarter of `most`."""
+    """Whether to keep each entry of a list: first the entries that still wait, the newest `most` of them; then the
+    newest of the rest, at most a quarter of `most`."""
     waiting = sum(waits)
     too_many, others = max(waiting - most, 0), len(waits) - waiting
     too_old = others - max(min(most - waiting, most // OTHERS, others), 0)
@@ -116,8 +116,8 @@ def newest(waits: list[bool], most: int) -> Iterator[bool]:
 
 
 def kept(found: Goroutines, numbers: dict[int, int], calls: dict[int, Calls], most: int = MOST) -> KeptData:
-    """The data to keep about all goroutines: actions of recorded goroutines, and actions with a line of the program on their stack, or in a
-    goroutine that the program started. If no lines are known, everything is kept."""
+    """The data to keep about all goroutines: actions of recorded goroutines, and actions with a line of the program on
+    their stack, or in a goroutine that the program started. If no lines are known, everything is kept."""
     of_program = {
         key
         for key, known in calls.items()

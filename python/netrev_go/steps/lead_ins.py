@@ -61,8 +61,8 @@ def lead(converter: Converter, socket: LoggedSocket) -> None:
 
 
 def is_written_later(socket: LoggedSocket) -> bool:
-    """Whether the point of a write comes after the note although the write came before it. If the write side was closed by the time of the
-    note, the write was made before that."""
+    """Whether the point of a write comes after the note although the write came before it. If the write side was closed
+    by the time of the note, the write was made before that."""
     assert socket.note
     return socket.last_write is not None and socket.last_write.number > socket.note.number
 

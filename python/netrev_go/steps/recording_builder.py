@@ -105,8 +105,9 @@ def make(
     part: Part | None = None,
     first: int = 0,
 ) -> NewRecording:
-    """The recording of a log's newest sockets, or of the sockets that `part` chooses: at most `most` sockets, and at most `megabytes` of
-    text for their bytes. A socket whose lock word has the address `first` is kept before all others."""
+    """The recording of a log's newest sockets, or of the sockets that `part` chooses: at most `most` sockets, and at
+    most `megabytes` of text for their bytes. A socket whose lock word has the address `first` is kept before all
+    others."""
     window = window_of(log, all_bytes)
     found = window.found
     notes = [*log.notes, *window.notes]
@@ -174,8 +175,8 @@ def lacks(why: str, number: int) -> str:
 
 
 def owners_of(converter: Converter) -> tuple[dict[int, int], dict[int, int]]:
-    """The recording's goroutines by Go's numbers: for each number, the last goroutine that had it; and the step after which a goroutine
-    took its number."""
+    """The recording's goroutines by Go's numbers: for each number, the last goroutine that had it; and the step after
+    which a goroutine took its number."""
     numbers = {name: number for number, name in enumerate(converter.names) if name != NOBODY}
     return numbers, {name: step for _, step, name in converter.taken}
 

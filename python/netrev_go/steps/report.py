@@ -1,5 +1,5 @@
-"""The report on a recording: netrev's output, the hanging goroutines, each with its step and line of the program, and the command to type
-next. Text from the program, such as names of functions and files, is printed through `plain`."""
+"""The report on a recording: netrev's output, the hanging goroutines, each with its step and line of the program, and
+the command to type next. Text from the program, such as names of functions and files, is printed through `plain`."""
 
 from __future__ import annotations
 
@@ -51,8 +51,8 @@ class Shown(NamedTuple):
 
 @dataclass(frozen=True)
 class Conversion:
-    """The result for a log: whether netrev accepts the recording, the report's lines, whether the log had no sockets, the findings in the
-    report, and the recording as the library read it, if all its findings could be computed."""
+    """The result for a log: whether netrev accepts the recording, the report's lines, whether the log had no sockets,
+    the findings in the report, and the recording as the library read it, if all its findings could be computed."""
 
     taken: bool
     lines: list[str]
@@ -121,7 +121,8 @@ def since_words(recording: NewRecording, step: int) -> str:
 def waits_of(
     recording: NewRecording, calls: dict[int, Calls], waiting: dict[int, str]
 ) -> tuple[list[Finding], list[str]]:
-    """The findings about hanging goroutines, first those with a line of the program, and lines about those that are left out."""
+    """The findings about hanging goroutines, first those with a line of the program, and lines about those that are
+    left out."""
 
     def calls_of(g: int) -> Calls | None:
         step = recording.last_steps[g]
@@ -143,8 +144,9 @@ def waits_of(
 
 
 def next_line(name: pathlib.Path, evidence: Sequence[str], nobody_waits: bool = False, failed: bool = False) -> str:
-    """The command to type next: nrdb with the commands of the first suspect, or with a list of waiting goroutines. If no goroutine waits,
-    the command lists the failed calls of a program that failed, or searches other schedules of a good run."""
+    """The command to type next: nrdb with the commands of the first suspect, or with a list of waiting goroutines. If
+    no goroutine waits, the command lists the failed calls of a program that failed, or searches other schedules of a
+    good run."""
     topic = "errors" if failed and nobody_waits else "goroutines"
     line = command_of(evidence or ["continue", f"info {topic}"], name)
     if nobody_waits and not failed and not evidence:
@@ -153,7 +155,8 @@ def next_line(name: pathlib.Path, evidence: Sequence[str], nobody_waits: bool = 
 
 
 def computed(compute: Callable[[], Result], nothing: Result, line: str) -> tuple[Result, list[str]]:
-    """What the library computes. If that fails, the result is `nothing`, with the line that says why, and which command line prints more."""
+    """What the library computes. If that fails, the result is `nothing`, with the line that says why, and which command
+    line prints more."""
     try:
         return compute(), []
     except LateError as late:
@@ -208,7 +211,8 @@ class Report:
         return True
 
     def causes(self, analysis: Analysis) -> tuple[FirstFindings, list[str]]:
-        """The failed calls and hanging goroutines of a program that failed, each with its cause, and the lines about them."""
+        """The failed calls and hanging goroutines of a program that failed, each with its cause, and the lines about
+        them."""
         line = command_line("nrdb", "-ex", "info errors", file_word(self._name))
         causes, why = computed(analysis.causes, FirstFindings([], 0, []), line)
         return causes, why or [plain(line) for line in causes.lines(str(self._name))]
@@ -227,7 +231,8 @@ class Report:
         return waiting
 
     def suspects(self, analysis: Analysis) -> tuple[SuspectFindings, list[str]]:
-        """The suspects, and the lines about them. They come last because they may take long: Ctrl-C ends only this search."""
+        """The suspects, and the lines about them. They come last because they may take long: Ctrl-C ends only this
+        search."""
         line, none = command_line("nrdb", "--suspects", file_word(self._name)), SuspectFindings([], "")
         try:
             found, why = computed(analysis.suspects, none, line)
@@ -255,8 +260,8 @@ def report(
     failed: bool = False,
     hear: Hear = unheard,
 ) -> Conversion:
-    """The report about a recording. `failed` is whether the program failed. `hear` receives the lines as soon as they are known: why calls
-    failed or hang, long before the suspects."""
+    """The report about a recording. `failed` is whether the program failed. `hear` receives the lines as soon as they
+    are known: why calls failed or hang, long before the suspects."""
     printed, netrev = Report(recording, name, calls, hear), netrev_program()
     if netrev is None:
         unchecked = messages.UNCHECKED.format(how=how_to_get_netrev())

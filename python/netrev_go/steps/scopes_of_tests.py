@@ -1,5 +1,5 @@
-"""The sockets and goroutines of a test in a log. The sockets are the test's own, its subtests', and other sockets that were used while it
-ran; the goroutines exclude other tests' goroutines."""
+"""The sockets and goroutines of a test in a log. The sockets are the test's own, its subtests', and other sockets that
+were used while it ran; the goroutines exclude other tests' goroutines."""
 
 from __future__ import annotations
 
@@ -21,7 +21,8 @@ class Makers:
         self.tests = {test.goroutine: test for test in tests}
 
     def test_of(self, goroutine: int) -> Ran | None:
-        """The innermost test that the goroutine belongs to; None if no test started it, or if its start isn't in the log."""
+        """The innermost test that the goroutine belongs to; None if no test started it, or if its start isn't in the
+        log."""
         passed = set()
         while goroutine not in self.tests:
             if goroutine not in self.made_by or goroutine in passed:  # (passed: only in a damaged log)
@@ -49,9 +50,8 @@ def sockets_of(test: Ran, log: Log, found: Owned, tests: list[Ran]) -> list[Logg
 
 
 def goroutines_of(test: Ran, found: Goroutines, tests: list[Ran], numbers: Mapping[int, int]) -> Goroutines:
-    """The actions of goroutines while one test ran, without the goroutines of other tests, which may keep running after their test has
-    ended. The
-    goroutines with numbers in the recording are kept."""
+    """The actions of goroutines while one test ran, without the goroutines of other tests, which may keep running after
+    their test has ended. The goroutines with numbers in the recording are kept."""
     makers = Makers({goroutine: born.maker for goroutine, born in found.born.items()}, tests)
 
     def is_of_another(goroutine: int) -> bool:

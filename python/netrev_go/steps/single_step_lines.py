@@ -1,5 +1,5 @@
-"""Lines for points that are exactly one step, which depends only on the goroutine, the point, the socket and the answer. Three in four
-points are like this."""
+"""Lines for points that are exactly one step, which depends only on the goroutine, the point, the socket and the
+answer. Three in four points are like this."""
 
 from __future__ import annotations
 

@@ -65,8 +65,8 @@ def write_where(
     times: list[int] | None = None,
     everybody: Everybody | None = None,
 ) -> None:
-    """Writes the file of a recording whose steps have these stacks and orders, with the log's other facts, further lines, the steps' times,
-    and all goroutines."""
+    """Writes the file of a recording whose steps have these stacks and orders, with the log's other facts, further
+    lines, the steps' times, and all goroutines."""
     numbered = NumberedLines(calls)
     numbered.add({"where": 1 if everybody is None else 2, "steps": len(stacks)})
     number_of = {key: str(numbered.stack(key)) for key in dict.fromkeys(stacks)}.__getitem__

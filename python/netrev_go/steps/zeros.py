@@ -10,8 +10,8 @@ LINES_KEPT = 4_096  # many lines are alike
 
 
 class Zeros(NamedTuple):
-    """A line with many zeros. The zeros are written out only with the recording, because the program may have moved gigabytes in a few points
-    of the log."""
+    """A line with many zeros. The zeros are written out only with the recording, because the program may have moved
+    gigabytes in a few points of the log."""
 
     before: str
     size: int  # bytes

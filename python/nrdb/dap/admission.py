@@ -37,8 +37,8 @@ def token_for_a_port() -> str:
 
 
 def is_let_in(request: Request, token: str) -> bool:
-    """Whether a request is a launch with the token; False for a request that needs no token. Raises UnanswerableError for
-    any other request, and StrangerError for a launch with another token."""
+    """Whether a request is a launch with the token; False for a request that needs no token. Raises UnanswerableError
+    for any other request, and StrangerError for a launch with another token."""
     if request.command in BEFORE:
         return False
     if request.command not in OPENING:

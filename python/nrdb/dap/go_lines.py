@@ -57,8 +57,8 @@ class GoLines:
         self._logpoints.clear(path)
 
     def positions(self, path: str, line: int) -> list[int]:
-        """The positions at which a goroutine reaches a line of a file; raises UnanswerableError, with the prompt's message,
-        if no step comes from the line."""
+        """The positions at which a goroutine reaches a line of a file; raises UnanswerableError, with the prompt's
+        message, if no step comes from the line."""
         lines = self.lines(path)
         if line not in lines:
             name = plain(Path(path).name) or "that file"

@@ -86,8 +86,8 @@ class Moves:
         return self.run(True, self._debuggee.length if found is None else found - 1)
 
     def out_of(self, goroutine: int) -> Stop:
-        """Runs until a goroutine's call has ended or, between calls, until the goroutine has left the program's function.
-        Raises UnanswerableError if that doesn't happen."""
+        """Runs until a goroutine's call has ended or, between calls, until the goroutine has left the program's
+        function. Raises UnanswerableError if that doesn't happen."""
         try:
             with self._interrupts.at_once():
                 goal = finish_goal(self._debuggee.recording, goroutine, self._debuggee.position)

@@ -120,8 +120,8 @@ def calls_of(recording: Recording) -> list[SourceCall]:
 
 
 def stack_at(session: Session) -> Stack:
-    """The stack of the chosen goroutine. Without a chosen goroutine, the stack of the last step, or, if a move stopped at
-    a line or function of the program, the stack of the next step."""
+    """The stack of the chosen goroutine. Without a chosen goroutine, the stack of the last step, or, if a move stopped
+    at a line or function of the program, the stack of the next step."""
     if session.goroutine:
         found = stack_of(session.text(), session.goroutine, session.current_position().position)
         return found.stack if found else Stack((), None)

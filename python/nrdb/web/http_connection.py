@@ -33,8 +33,8 @@ class BrowserConnection:
         self._headers = ALWAYS | {"Content-Security-Policy": policy}
 
     async def head(self) -> BrowserRequest:
-        """The request without its body. Raises RejectedRequestError if the request doesn't arrive completely in time, and EOFError
-        if no byte arrives."""
+        """The request without its body. Raises RejectedRequestError if the request doesn't arrive completely in time,
+        and EOFError if no byte arrives."""
         try:
             head = await asyncio.wait_for(self._reader.readuntil(b"\r\n\r\n"), IN_TIME)
         except asyncio.LimitOverrunError:

@@ -1,5 +1,5 @@
-"""The page's server. The server listens only on the loopback interface, in a thread of its own, and answers six kinds of
-requests. It passes requests about the session to the thread that runs the session."""
+"""The page's server. The server listens only on the loopback interface, in a thread of its own, and answers six kinds
+of requests. It passes requests about the session to the thread that runs the session."""
 
 import asyncio
 import socket
@@ -32,7 +32,8 @@ from .streams import BrowserStream, Streams
 LOOPBACK = "127.0.0.1"
 MOST_CONNECTIONS = 64
 PULSE = 15.0  # seconds after which the server sends something to a browser, to detect that the browser has gone
-# how long the server waits for connections that the system has already accepted, and how long it may take to end (in seconds)
+# how long the server waits for connections that the system has already accepted, and how long it may take to end (in
+# seconds)
 LAST, ENDING = 0.02, 4.0
 BEGINNING = b"retry: 1000\n\n"
 UNAVAILABLE = HTTPStatus.SERVICE_UNAVAILABLE

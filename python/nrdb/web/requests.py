@@ -42,8 +42,8 @@ class BrowserRequest:
 
     @classmethod
     def of(cls, head: bytes) -> "BrowserRequest":
-        """The request in the bytes up to the empty line; raises RejectedRequestError if the request is malformed. No header may
-        occur twice, because two parsers could choose different values."""
+        """The request in the bytes up to the empty line; raises RejectedRequestError if the request is malformed. No
+        header may occur twice, because two parsers could choose different values."""
         first, *lines = head.decode("latin-1").removesuffix("\r\n\r\n").split("\r\n")
         request_line = FIRST_LINE.fullmatch(first)
         found = [HEADER.fullmatch(line) for line in lines]

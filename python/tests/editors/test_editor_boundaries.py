@@ -1,4 +1,5 @@
-"""Tests how the adapter for editors answers requests whose arguments are at a boundary. Each side of a boundary has a row."""
+"""Tests how the adapter for editors answers requests whose arguments are at a boundary. Each side of a boundary has a
+row."""
 
 import base64
 from types import SimpleNamespace as Made
@@ -220,7 +221,8 @@ def test_breakpoints_of_a_kind_are_replaced() -> None:
 def test_the_lines_that_have_a_step(
     line: int, end: int | None, is_recording: bool, wanted: list[int], first: int
 ) -> None:
-    """Steps are at lines 3, 5 and 9 of the program, and at lines 2 to 5 of the recording. The editor counts lines from `first`."""
+    """Steps are at lines 3, 5 and 9 of the program, and at lines 2 to 5 of the recording. The editor counts lines from
+    `first`."""
     steps = {number: Made(number=number, line=number + 1) for number in (1, 2, 3, 4)}
     debuggee = Made(
         is_at=lambda path: is_recording, step=steps.get, step_at=lambda line: next((step for step in steps.values() if step.line >= line), None)

@@ -1,5 +1,5 @@
-"""How an editor's connection begins and ends: the requests before a launch, the arguments of a launch, the messages about a recording, and
-the exit status; and the steps that an editor shows for a thread."""
+"""How an editor's connection begins and ends: the requests before a launch, the arguments of a launch, the messages
+about a recording, and the exit status; and the steps that an editor shows for a thread."""
 
 import io
 import os

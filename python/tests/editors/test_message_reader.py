@@ -1,4 +1,5 @@
-"""An editor's messages during work on a request: a pause, a cancel and a disconnect stop any work within half a second."""
+"""An editor's messages during work on a request: a pause, a cancel and a disconnect stop any work within half a second.
+"""
 
 import io
 import json
@@ -93,7 +94,8 @@ class Client:
     def stopped(
         self, request: Request, work: Callable[[Interrupts], None], messages: bytes, by: type[Exception]
     ) -> None:
-        """Checks that a message soon stops the work on a request: within this much processor time, whatever else the machine does."""
+        """Checks that a message soon stops the work on a request: within this much processor time, whatever else the
+        machine does."""
         text: list[float] = []
 
         def says() -> None:
@@ -242,8 +244,8 @@ def messages_in(data: bytes) -> list[dict[str, Any]]:
 
 
 def told_of_work(command: str, shows: bool, reports: int, refuses: bool = False) -> list[dict[str, Any]]:
-    """The messages that an editor gets about the work on a request. The work ends after `told` messages. `shows` says whether the
-    editor shows progress."""
+    """The messages that an editor gets about the work on a request. The work ends after `told` messages. `shows` says
+    whether the editor shows progress."""
     written = io.BytesIO()
     with pytest.MonkeyPatch.context() as patch:
         patch.setattr(progress, "LATE", 0.05 if reports else 60)

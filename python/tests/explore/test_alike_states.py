@@ -29,8 +29,8 @@ def at(which: int, steps: Steps) -> Steps:
 
 
 def state_of(steps: Steps, is_swapped: bool) -> NumberedState:
-    """The state after steps of a recording with two goroutines and two open sockets. The numbers of sockets and descriptors are swapped
-    in a schedule that opens the second socket first."""
+    """The state after steps of a recording with two goroutines and two open sockets. The numbers of sockets and
+    descriptors are swapped in a schedule that opens the second socket first."""
     state = NumberedState(Limits(4, 3, 3, 16))
     opened: Steps = [("spawn",), *[("sockopen", 16, 16)] * 2, ("pollopen", 0, 0), ("pollopen", 0, 1)]
     for step in opened:

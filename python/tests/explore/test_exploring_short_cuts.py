@@ -1,4 +1,5 @@
-"""Copies of the recorded run change nothing: the findings are the same as when each schedule runs from its first step to its last."""
+"""Copies of the recorded run change nothing: the findings are the same as when each schedule runs from its first step
+to its last."""
 
 from pathlib import Path
 from typing import Any

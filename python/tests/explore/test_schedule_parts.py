@@ -1,4 +1,5 @@
-"""The parts of a schedule: who waits for whom, when the network acts, the schedules that are kept, and how far a run goes."""
+"""The parts of a schedule: who waits for whom, when the network acts, the schedules that are kept, and how far a run
+goes."""
 
 import io
 import pickle
@@ -335,7 +336,8 @@ def test_why_a_call_fails(
     [(0, None), (1, 8), (2, 8), (3, None)],
 )
 def test_the_deadline_that_ended_a_call(operation: int, ended: int | None) -> None:
-    """Step 5 sets the deadline of the other side, and step 8 that of this one, which ends the wait; step 17 comes later."""
+    """Step 5 sets the deadline of the other side, and step 8 that of this one, which ends the wait; step 17 comes
+    later."""
     other: Steps = [["incref", 0, 0], ["setdeadline", 0, 0, "w", -1], ["decref", 0, 0]]
     steps = (
         OPEN + other + sets(-1) + [["rwlock", 1, 0, "r"], ["pollreset", 1, 0, "r"], ["rwunlock", 1, 0, "r"]] + sets(-1)

@@ -184,10 +184,12 @@ def read(count: int) -> Steps:
     [
         (READ + PARKS + read(16) + UNLOCKS, "LOCK RESET READ:7 UNLOCK"),
         (READ + PARKS + UNLOCKS, "LOCK RESET READ:6 UNLOCK"),
-        (READ + READY + [["waitbegin", 1, 0, "w"], ["blockarm", 1]] + UNLOCKS, "LOCK RESET READ:1 WAIT:2 UNLOCK"),  # (of the other side)
+        # (of the other side)
+        (READ + READY + [["waitbegin", 1, 0, "w"], ["blockarm", 1]] + UNLOCKS, "LOCK RESET READ:1 WAIT:2 UNLOCK"),
         (READ + READY + [["waitbegin", 1, 0, "r"], ["blockarm", 1]] + UNLOCKS, "LOCK RESET READ:3 UNLOCK"),
         (READ[:2] + READY + [["waitbegin", 1, 0, "r"], ["blockarm", 1]] + UNLOCKS, "LOCK RESET WAIT:2 UNLOCK"),
-        (BYTES + READ[:2] + read(2) + read(2) + UNLOCKS, "LOCK RESET READ:2 UNLOCK"),  # (the first read got as many bytes as it asked for)
+        # (the first read got as many bytes as it asked for)
+        (BYTES + READ[:2] + read(2) + read(2) + UNLOCKS, "LOCK RESET READ:2 UNLOCK"),
         (BYTES + READ[:2] + read(5) + read(2) + UNLOCKS, "LOCK RESET READ:1 READ:1 UNLOCK"),
         (BYTES + READ[:2] + read(4) + read(1) + UNLOCKS, "LOCK RESET READ:2 UNLOCK"),
         (BYTES + READ[:2] + read(3) + UNLOCKS + READ[:2] + read(1) + UNLOCKS, "LOCK RESET READ:1 UNLOCK LOCK RESET READ:1 UNLOCK"),
@@ -203,7 +205,8 @@ def read(count: int) -> Steps:
     ],
 )  # fmt: skip
 def test_a_goroutines_steps_are_divided_into_operations(steps: Steps, wanted: str) -> None:
-    """Each operation of goroutine 1 with the number of its steps; 0 for one that the recording doesn't show, because the call failed."""
+    """Each operation of goroutine 1 with the number of its steps; 0 for one that the recording doesn't show, because
+    the call failed."""
     (_, operations) = script_of(recording_of(OPEN + steps)).goroutines
     assert all(len(one.steps) == len(one.kinds) for one in operations)
     counts = [(one.sort.name, len(one.steps)) for one in operations]

@@ -2,7 +2,8 @@
 are stored, because the texts are long. The model answers instead of netrev.
 
     /usr/bin/python3 python tests.explore.test_stored_searches              stores new checksums
-    /usr/bin/python3 python tests.explore.test_stored_searches NAME ..      prints all for a recording, to compare it with an earlier text"""
+    /usr/bin/python3 python tests.explore.test_stored_searches NAME ..      prints all for a recording, to compare it with an earlier text
+"""
 
 import hashlib
 import json

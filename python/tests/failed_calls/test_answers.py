@@ -114,7 +114,8 @@ def test_requests_of_the_same_form_were_answered() -> None:
 
 
 def sentences_about_readers(folder: Path, source: str = READER, more: list[Any] = []) -> list[str]:
-    """Goroutine 1 reads from socket 0 in `command`, answers in `answer`, and reads again. Goroutine 0 waits on socket 1."""
+    """Goroutine 1 reads from socket 0 in `command`, answers in `answer`, and reads again. Goroutine 0 waits on socket
+    1."""
     answers: list[Any] = [
         ["rwlock", 1, 0, "w"],
         ["pollreset", 1, 0, "w"],

@@ -1,4 +1,5 @@
-"""The rules of causes at their boundaries: a row for each side of a boundary, with a few lines of source and made-up calls and waits."""
+"""The rules of causes at their boundaries: a row for each side of a boundary, with a few lines of source and made-up
+calls and waits."""
 
 from types import SimpleNamespace as Made
 from typing import Any, cast

@@ -1,6 +1,6 @@
 """Resources that were left open, locked or unflushed, in recordings of tools/go/samples/chains (made by
-tests.trials.go_caused): the first cause names the line with the reason, and no cause of the good run does. Pieces of source
-test the exceptions to the rules."""
+tests.trials.go_caused): the first cause names the line with the reason, and no cause of the good run does. Pieces of
+source test the exceptions to the rules."""
 
 import re
 from pathlib import Path

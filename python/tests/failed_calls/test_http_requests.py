@@ -1,5 +1,5 @@
-"""Requests of net/http's client: the connection on which each was written, and the requests that ended because a deadline passed or they
-were cancelled. The recording is of tools/go/samples/requests."""
+"""Requests of net/http's client: the connection on which each was written, and the requests that ended because a
+deadline passed or they were cancelled. The recording is of tools/go/samples/requests."""
 
 import pathlib
 import re

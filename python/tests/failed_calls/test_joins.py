@@ -1,6 +1,6 @@
-"""Failed calls and the hangs that explain them, in recordings of tools/go/samples/joins (made by tests.trials.go_caused): the
-first cause has both, and a cause with a known reason comes before others. Other tests are about waits that aren't a
-deadlock, because a deadline ends them."""
+"""Failed calls and the hangs that explain them, in recordings of tools/go/samples/joins (made by
+tests.trials.go_caused): the first cause has both, and a cause with a known reason comes before others. Other tests are
+about waits that aren't a deadlock, because a deadline ends them."""
 
 import re
 

@@ -1,7 +1,7 @@
 """All that nrdb says about the recordings in `caused`: causes, hangs, errors and suspects.
 
-`/usr/bin/python3 python tests.failed_calls.test_stored_sentences` stores the current output, with a Python that has pytest; read the difference before
-you commit it."""
+`/usr/bin/python3 python tests.failed_calls.test_stored_sentences` stores the current output, with a Python that has
+pytest; read the difference before you commit it."""
 
 import json
 import sys

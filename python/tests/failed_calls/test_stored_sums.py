@@ -2,7 +2,8 @@
 left out. The tests store checksums, because the texts are long.
 
     /usr/bin/python3 python tests.failed_calls.test_stored_sums                     stores new checksums
-    /usr/bin/python3 python tests.failed_calls.test_stored_sums NAME VIEW ..        prints the text of a view, to compare it with an earlier text"""
+    /usr/bin/python3 python tests.failed_calls.test_stored_sums NAME VIEW ..        prints the text of a view, to compare it with an earlier text
+"""
 
 import hashlib
 import json
@@ -70,7 +71,8 @@ def without(name: str, what: str) -> list[str]:
 
 
 def with_source(name: str, changed: Callable[[int, str], str]) -> list[str]:
-    """The texts about a recording if the source is changed. `changed` gets each line's number and text, and returns the new text."""
+    """The texts about a recording if the source is changed. `changed` gets each line's number and text, and returns the
+    new text."""
     before = os.getcwd()
     with tempfile.TemporaryDirectory() as folder:
         for path in Path().glob("*.go"):
@@ -115,7 +117,8 @@ def text_of(name: str, view: str) -> str:
 
 
 def views_of(name: str) -> list[str]:
-    """The views whose checksums are stored: for good runs, in which hardly anything hangs, only those with the whole NAME.where."""
+    """The views whose checksums are stored: for good runs, in which hardly anything hangs, only those with the whole
+    NAME.where."""
     return [view for view in VIEWS if name.endswith("-bad") or not view.startswith("without")]
 
 

@@ -1,5 +1,5 @@
-"""The tables of failed calls and of hangs, the rules about cut datagrams, and the rules about goroutines that ended before they passed
-something on, clause by clause."""
+"""The tables of failed calls and of hangs, the rules about cut datagrams, and the rules about goroutines that ended
+before they passed something on, clause by clause."""
 
 from types import SimpleNamespace as Made
 from typing import Any, cast

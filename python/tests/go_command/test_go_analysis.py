@@ -1,5 +1,5 @@
-"""What netrev-go gets from netrev and from the library, with stand-ins for netrev: programs that are killed, missing or slow, and a library
-that fails."""
+"""What netrev-go gets from netrev and from the library, with stand-ins for netrev: programs that are killed, missing or
+slow, and a library that fails."""
 
 import threading
 import time

@@ -1,4 +1,5 @@
-"""The commands of netrev-go at the boundaries of their rules: which flags are Go's own, where logs go, and how the runs of tests end."""
+"""The commands of netrev-go at the boundaries of their rules: which flags are Go's own, where logs go, and how the runs
+of tests end."""
 
 import argparse
 import contextlib
@@ -111,7 +112,8 @@ def test_waits_that_last_are_kept_before_a_quarter_of_others(waits: str, most: i
 
 @pytest.mark.parametrize("goid, is_kept", [(1, True), (2, True), (3, False), (4, True)])
 def test_goroutines_with_steps_and_waiting_ones_are_kept_first(goid: int, is_kept: bool) -> None:
-    """Goroutine 1 has steps, and 2 waits. 3 and 4 have ended. Of four kept goroutines, at most one may have ended. So 3, the older, isn't kept."""
+    """Goroutine 1 has steps, and 2 waits. 3 and 4 have ended. Of four kept goroutines, at most one may have ended. So
+    3, the older, isn't kept."""
     park = Made(goroutine=2, stack=7, by=0, last=goroutine_lines.UNENDED)
     past = [Made(goroutine=goid, stack=8, by=0, last=5) for goid in (3, 4)]
     own = cast(

@@ -1,5 +1,5 @@
-"""netrev-go's first output for a program that failed: why calls failed or hang, before netrev has checked the recording and long before the
-suspects are known."""
+"""netrev-go's first output for a program that failed: why calls failed or hang, before netrev has checked the recording
+and long before the suspects are known."""
 
 from contextlib import ExitStack
 from pathlib import Path

@@ -1,5 +1,5 @@
-"""A run is never lost. A stand-in for Go leaves a stored log, does what a test requests, and ends with a status. Neither Go nor netrev is
-needed."""
+"""A run is never lost. A stand-in for Go leaves a stored log, does what a test requests, and ends with a status.
+Neither Go nor netrev is needed."""
 
 import contextlib
 import io

@@ -1,5 +1,5 @@
-"""The program that reads source lines comes with Go, or is built once for each release. A shell script plays the part of
-Go."""
+"""The program that reads source lines comes with Go, or is built once for each release. A shell script plays the part
+of Go."""
 
 import struct
 from pathlib import Path
@@ -86,7 +86,8 @@ def test_where_go_can_not_build_it_that_is_said_and_go_is_asked_later(folder: Pa
 
 
 def elf(entry: int = 64, address: int = 0) -> bytes:
-    """The file of a program with one section, .text, at an address. Its header says that a section's entry has `entry` bytes."""
+    """The file of a program with one section, .text, at an address. Its header says that a section's entry has `entry`
+    bytes."""
     header = b"\x7fELF".ljust(40, b"\0") + struct.pack("<Q10xHHH", 64, entry, 1, 0)
     section = struct.pack("<I12xQQ", 0, address, 128).ljust(64, b"\0")
     return header.ljust(64, b"\0") + section + b".text\0"

@@ -1,4 +1,5 @@
-"""Calls that have waited long, found in the tables of a log; and a log that is copied while it is written. No program is needed."""
+"""Calls that have waited long, found in the tables of a log; and a log that is copied while it is written. No program
+is needed."""
 
 import argparse
 import io

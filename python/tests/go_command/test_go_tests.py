@@ -1,5 +1,5 @@
-"""`netrev-go test`: the tests that ran, their sockets, the recordings that are kept, and the output. A stand-in for Go writes a made-up log
-and its tests. Neither Go nor netrev is needed."""
+"""`netrev-go test`: the tests that ran, their sockets, the recordings that are kept, and the output. A stand-in for Go
+writes a made-up log and its tests. Neither Go nor netrev is needed."""
 
 import contextlib
 import io
@@ -331,8 +331,8 @@ def test_a_file_that_cannot_be_written_is_said_and_changes_nothing(package: Test
 
 
 def as_github_reads(line: str) -> tuple[dict[str, str], str]:
-    """The properties and the message of an annotation, parsed as GitHub's runner parses them: it unescapes fewer characters in the
-    message."""
+    """The properties and the message of an annotation, parsed as GitHub's runner parses them: it unescapes fewer
+    characters in the message."""
     head, _, message = line.removeprefix("::").partition("::")
     command, _, rest = head.partition(" ")
     assert command == "error", line

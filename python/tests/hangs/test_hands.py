@@ -1,6 +1,7 @@
 """Goroutines that failed to pass on a value or a turn, in recordings of tools/go/samples/hands (made by
-tests.trials.go_caused). In a bad run, the first cause names the line with the reason. In a good run, no cause names that line.
-Other tests are about variables that the goroutines of a loop share, and about Reads that may get only a part."""
+tests.trials.go_caused). In a bad run, the first cause names the line with the reason. In a good run, no cause names
+that line. Other tests are about variables that the goroutines of a loop share, and about Reads that may get only a
+part."""
 
 from pathlib import Path
 

@@ -1,5 +1,5 @@
-"""What goroutines that wait for a mutex need, according to the recorder's table of locked mutexes: made-up holders and waits, and a file of
-a few lines."""
+"""What goroutines that wait for a mutex need, according to the recorder's table of locked mutexes: made-up holders and
+waits, and a file of a few lines."""
 
 from pathlib import Path
 

@@ -1,5 +1,5 @@
-"""Tests the rules that find what a goroutine needs, and their texts, at each boundary. A table has a row for each side of a boundary, with
-made-up calls and waits."""
+"""Tests the rules that find what a goroutine needs, and their texts, at each boundary. A table has a row for each side
+of a boundary, with made-up calls and waits."""
 
 from types import SimpleNamespace as Made
 from typing import Any, cast

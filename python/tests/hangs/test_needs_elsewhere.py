@@ -23,8 +23,8 @@ A_VALUE = "a value from a channel"
 
 
 def waiting(before: int, now: int, steps: Steps = TWO_ENDS) -> Recording:
-    """Two goroutines that wait for values. The first waits on channel `now`. At the same line, it had waited on channel `before`, until
-    the second goroutine ended that wait."""
+    """Two goroutines that wait for values. The first waits on channel `now`. At the same line, it had waited on channel
+    `before`, until the second goroutine ended that wait."""
     recording = with_lines(steps)
     lines = recording.lines
     lines.stacks[2], lines.stacks[3] = (

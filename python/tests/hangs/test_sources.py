@@ -1,5 +1,5 @@
-"""Hangs that the source explains, in recordings of tools/go/samples/sizes and sources (made by tests.trials.go_caused): the first cause names the
-line with the reason, and no cause of a good run does."""
+"""Hangs that the source explains, in recordings of tools/go/samples/sizes and sources (made by tests.trials.go_caused):
+the first cause names the line with the reason, and no cause of a good run does."""
 
 from pathlib import Path
 

@@ -1,5 +1,6 @@
 """Programs in which a goroutine doesn't do what another goroutine waits for, in recordings of tools/go/samples/turns
-(made by tests.trials.go_caused): the output has the line of the bug with its reason, and nothing for runs without the bug."""
+(made by tests.trials.go_caused): the output has the line of the bug with its reason, and nothing for runs without the
+bug."""
 
 
 import re

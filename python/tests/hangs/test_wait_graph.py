@@ -1,5 +1,5 @@
-"""The wait-for graph at a recording's end: what all goroutines wait for comes first, then the goroutines that wait for it; cycles are
-deadlocks, and waits that may be normal come last."""
+"""The wait-for graph at a recording's end: what all goroutines wait for comes first, then the goroutines that wait for
+it; cycles are deadlocks, and waits that may be normal come last."""
 
 import json
 import re
@@ -66,8 +66,8 @@ def lines_with(
 
 
 def graph_of(steps: Steps, waits: list[list[Any]], wrote: int = WRITES, file: str = "hub.go") -> WaitGraph:
-    """The graph of these steps, whose calls have a source line, and of these waits: stack 2 waits for the mutex in `broadcast`, stack 3 in
-    `join`, stack 4 in `names`, and stack 5 for a value from a channel."""
+    """The graph of these steps, whose calls have a source line, and of these waits: stack 2 waits for the mutex in
+    `broadcast`, stack 3 in `join`, stack 4 in `names`, and stack 5 for a value from a channel."""
     recording = with_lines(steps)
     stacks = {1: [wrote], 2: [0, BROADCAST], 3: [0, JOIN], 4: [0, NAMES], 5: [NAMES]}
     recording.lines = lines_with(steps, stacks, 1, waits, file)

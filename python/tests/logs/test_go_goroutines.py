@@ -1,5 +1,5 @@
-"""All goroutines of a log, as written to NAME.where and read by nrdb: made-up logs of a few points, and of a hundred thousand goroutines.
-No program is needed."""
+"""All goroutines of a log, as written to NAME.where and read by nrdb: made-up logs of a few points, and of a hundred
+thousand goroutines. No program is needed."""
 
 import json
 import pathlib

@@ -1,4 +1,5 @@
-"""Logs and runs at the boundaries of their rules: which headers are possible, which bytes count, and what a run's end says."""
+"""Logs and runs at the boundaries of their rules: which headers are possible, which bytes count, and what a run's end
+says."""
 
 import argparse
 import io
@@ -273,7 +274,8 @@ def test_the_results_for_which_the_machine_has_an_answer(
     [("a", 0), ("r", 1), ("t", 4), ("ra", 1), ("ar", 1), ("tr", 4), ("rt", 4), ("", 0)],
 )
 def test_the_status_of_recovered_runs(statuses: str, ends: int, monkeypatch: Patch, capsys: Output) -> None:
-    """Each run's recordings are all accepted (a), not all accepted (r), or can't be written (t). In each case, --keep leaves the run's logs."""
+    """Each run's recordings are all accepted (a), not all accepted (r), or can't be written (t). In each case, --keep
+    leaves the run's logs."""
     left: list[bool] = []
     folders: list[Path] = []
     runs = [Made(folder=Path(kind), command=kind, when=lambda: "today") for kind in statuses]
@@ -358,7 +360,8 @@ def test_a_goroutine_is_told_with_the_line_that_started_it(starter: LineCall | N
 
 
 def passed(*points: tuple[int, ...], begin: int = 0) -> Goroutines:
-    """The goroutines that these points describe. Each tuple has a point's fields except its number; point N comes after step N."""
+    """The goroutines that these points describe. Each tuple has a point's fields except its number; point N comes after
+    step N."""
     passing = Passing(begin)
     for number, point in enumerate(points, 1):
         passing.point(Point(number, *point), number)

@@ -147,7 +147,8 @@ def test_nrdb_reads_the_times_that_were_written(folder: pathlib.Path) -> None:
 
 
 def stacks(*points: tuple[PointKind, int, int, int]) -> list[int]:
-    """The stacks of the steps for these points, which follow the opening of two sockets. A point is a kind, a goroutine, a socket and a stack."""
+    """The stacks of the steps for these points, which follow the opening of two sockets. A point is a kind, a
+    goroutine, a socket and a stack."""
     made_file = opened(2)
     for kind, g, socket, stack in points:
         at = made_file[2 * socket].at if kind != PointKind.RESET else made_file[2 * socket + 1].at

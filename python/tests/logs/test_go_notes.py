@@ -1,5 +1,5 @@
-"""Recordings that begin in the middle of a run, with notes of the sockets that were open: made-up logs of a few points each, which the
-model in Python replays. No program is needed."""
+"""Recordings that begin in the middle of a run, with notes of the sockets that were open: made-up logs of a few points
+each, which the model in Python replays. No program is needed."""
 
 import json
 import random

@@ -1,7 +1,7 @@
 """Compares the recorder's log of the program go_recorded.go, which runs on one processor, with go_recorded.txt: each
 point of the program's goroutines, the mutexes that are locked at the end, and the notes of open descriptors. The
-recordings of the whole log and of its second half are checked too. The test needs the Go 1.27 that dev.recorder.fetching
-fetches.
+recordings of the whole log and of its second half are checked too. The test needs the Go 1.27 that
+dev.recorder.fetching fetches.
 
     /usr/bin/python3 python tests.logs.test_go_recorded    stores the new text"""
 

@@ -227,7 +227,8 @@ def test_a_wait_ends_where_its_goroutine_goes_on_and_by_who_made_it_ready(seed: 
 
 @pytest.mark.parametrize("seed", range(40))
 def test_waits_of_a_recording_are_those_with_a_step_in_them(seed: int) -> None:
-    """Goroutine 4 has no number. Goroutine 3 got its number after step 5; before that, another goroutine had that number."""
+    """Goroutine 4 has no number. Goroutine 3 got its number after step 5; before that, another goroutine had that
+    number."""
     points, steps = random_waits(seed)
     found, numbers, since = goroutines_of(points, steps, BEGIN), {1: 0, 2: 1, 3: 2}, {3: 5}
     ended = sorted(

@@ -3,7 +3,8 @@ and in randomly chosen parts, of which only checksums are stored. Logs of random
 Neither Go nor netrev is needed.
 
     /usr/bin/python3 python tests.logs.test_go_stored             stores all new results
-    /usr/bin/python3 python tests.logs.test_go_stored PART ..     prints what is made from parts, such as log-7 or program-7"""
+    /usr/bin/python3 python tests.logs.test_go_stored PART ..     prints what is made from parts, such as log-7 or program-7
+"""
 
 import hashlib
 import json

@@ -1,5 +1,5 @@
-"""Logs of random programs become recordings that the model accepts, in which each socket and descriptor ends as in Go, with the log's bytes
-and each goroutine's steps. `make fuzz-around` tries other programs, also with netrev."""
+"""Logs of random programs become recordings that the model accepts, in which each socket and descriptor ends as in Go,
+with the log's bytes and each goroutine's steps. `make fuzz-around` tries other programs, also with netrev."""
 
 import pytest
 

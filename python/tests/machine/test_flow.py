@@ -1,4 +1,5 @@
-"""The table of Go's control flow, compared with the machine: in random recordings, each step has the consequence that its row names."""
+"""The table of Go's control flow, compared with the machine: in random recordings, each step has the consequence that
+its row names."""
 
 import random
 from collections.abc import Iterator

@@ -1,5 +1,5 @@
-"""The in-place machine equals the model in random recordings: its states, answers and refusals, also when it undoes each step, and the
-cells that each step changed."""
+"""The in-place machine equals the model in random recordings: its states, answers and refusals, also when it undoes
+each step, and the cells that each step changed."""
 
 import random
 from typing import Any
@@ -38,7 +38,8 @@ def in_order(cells: set[str]) -> list[str]:
 
 
 def made(machine: Machine, world: World, step: tuple[Any, ...]) -> World:
-    """Checks that both machines make a step, or refuse it for the same reason, and are equal afterwards; returns the state after it."""
+    """Checks that both machines make a step, or refuse it for the same reason, and are equal afterwards; returns the
+    state after it."""
     try:
         after, answer = apply(world, step)
     except StepRefusedError as refused:

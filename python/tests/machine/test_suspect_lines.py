@@ -1,5 +1,5 @@
-"""The naive implementation of `netrev suspects` (netrev/model/suspects.py), tested by a table of small recordings: each row is at the
-boundary of a definition."""
+"""The naive implementation of `netrev suspects` (netrev/model/suspects.py), tested by a table of small recordings: each
+row is at the boundary of a definition."""
 
 import random
 

@@ -1,5 +1,5 @@
-"""The recordings of the benchmark: the same steps with different limits, and runs of servers in version 1; and the counts of system
-calls."""
+"""The recordings of the benchmark: the same steps with different limits, and runs of servers in version 1; and the
+counts of system calls."""
 
 import json
 from pathlib import Path

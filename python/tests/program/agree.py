@@ -95,8 +95,8 @@ def test_bad(folder: Path) -> None:
 
 
 def sizes() -> list[str]:
-    """Steps that open all sockets and descriptors, make goroutines up to the limit, set all deadlines, and fill the last socket's
-    buffers and empty them."""
+    """Steps that open all sockets and descriptors, make goroutines up to the limit, set all deadlines, and fill the
+    last socket's buffers and empty them."""
     last, full = SOCKETS - 1, "00" * PIECE
     steps = [f'["sockopen",{PIECE},{PIECE}]'] * SOCKETS + ['["spawn"]'] * (GOROUTINES - 1)
     steps += [f'["pollopen",0,{number}]' for number in range(DESCRIPTORS)]

@@ -269,8 +269,8 @@ def greatest_memory(path: Path, steps: int) -> int:
 
 
 def play_copies(folder: Path) -> None:
-    """The memory for a recording according to docs/reference/RECORDING.md: the bytes held in each copy, and some
-    bytes for each step. Bytes that stay the same are counted once for all copies. (The rest is the program itself, the rings,
+    """The memory for a recording according to docs/reference/RECORDING.md: the bytes held in each copy, and some bytes
+    for each step. Bytes that stay the same are counted once for all copies. (The rest is the program itself, the rings,
     and the growth of lists.)"""
     steps = 100 * EACH_COPY
     turn = ['["sysread",0,0,1,["got",1]]', '["arrive",0,"ab","done"]']

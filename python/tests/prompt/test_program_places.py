@@ -1,5 +1,5 @@
-"""A place may be a line or a function of the program. The tests use such places at the prompt and in the adapter's breakpoints: they
-break in both directions, move, and show frames and source. A model in Python replaces netrev."""
+"""A place may be a line or a function of the program. The tests use such places at the prompt and in the adapter's
+breakpoints: they break in both directions, move, and show frames and source. A model in Python replaces netrev."""
 
 import io
 import re

@@ -1,5 +1,5 @@
-"""What the words of a line mean at the prompt: cells, values and positions, the lines of `list`, completions, and the positions of a
-page and of its marks."""
+"""What the words of a line mean at the prompt: cells, values and positions, the lines of `list`, completions, and the
+positions of a page and of its marks."""
 
 import io
 from contextlib import nullcontext

@@ -1,5 +1,5 @@
-"""Command forms that other debuggers have: `apropos`, `delete` without an argument, `list` and `break` with a function, and completion of
-places with Tab. A model takes netrev's part."""
+"""Command forms that other debuggers have: `apropos`, `delete` without an argument, `list` and `break` with a function,
+and completion of places with Tab. A model takes netrev's part."""
 
 import io
 

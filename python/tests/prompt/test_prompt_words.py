@@ -1,5 +1,5 @@
-"""The prompt's output if a line is too long for the terminal, or an answer for the screen; saved settings; and help and hints for other
-debuggers' words."""
+"""The prompt's output if a line is too long for the terminal, or an answer for the screen; saved settings; and help and
+hints for other debuggers' words."""
 
 import io
 import os

@@ -1,5 +1,5 @@
-"""The recorder's tools for developers: `make real` from its options to its tables, the cost of recording, and fetching a release.
-Stand-ins replace Go, netrev and the measured programs. Nothing is built or fetched."""
+"""The recorder's tools for developers: `make real` from its options to its tables, the cost of recording, and fetching
+a release. Stand-ins replace Go, netrev and the measured programs. Nothing is built or fetched."""
 
 import contextlib
 import io

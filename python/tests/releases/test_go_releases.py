@@ -1,4 +1,5 @@
-"""netrev-go's data about Go's releases, the evaluation of a trial, and the counts of `make real`. Neither Go nor netrev is needed."""
+"""netrev-go's data about Go's releases, the evaluation of a trial, and the counts of `make real`. Neither Go nor netrev
+is needed."""
 
 import contextlib
 import io

@@ -1,4 +1,5 @@
-"""scripts/beliefs.py: the definitions that a law of the small tree rests on, their order, and the definitions that aren't followed."""
+"""scripts/beliefs.py: the definitions that a law of the small tree rests on, their order, and the definitions that
+aren't followed."""
 
 import pytest
 

@@ -1,4 +1,5 @@
-"""The tables of messages: each message is used, each call fills in exactly the words in its braces, and no error is written elsewhere."""
+"""The tables of messages: each message is used, each call fills in exactly the words in its braces, and no error is
+written elsewhere."""
 
 import ast
 import string

@@ -1,5 +1,5 @@
-"""README.md leads to each page and names only what exists; `make help` lists each target; modules of nrdb are as short as CONTRIBUTING.md
-says; and each crate's README says what a newcomer may change."""
+"""README.md leads to each page and names only what exists; `make help` lists each target; modules of nrdb are as short
+as CONTRIBUTING.md says; and each crate's README says what a newcomer may change."""
 
 import re
 import subprocess
@@ -41,8 +41,8 @@ def test_readme_has_the_limits() -> None:
 
 
 def test_readme_names_targets_and_options_that_exist() -> None:
-    """Checks the text in code font; tests/program/tools/test_readme_commands.py runs the code blocks. Options of netrev-go come before its
-    command, because everything after the command belongs to Go."""
+    """Checks the text in code font; tests/program/tools/test_readme_commands.py runs the code blocks. Options of
+    netrev-go come before its command, because everything after the command belongs to Go."""
     named = [code.split() for code in CODE.findall(README)]
     assert {words[0] for words in named} == {"make", "nrdb", "netrev-go"} and len(named) >= 12
     for program, *words in named:

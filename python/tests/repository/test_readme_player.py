@@ -1,4 +1,5 @@
-"""The README player (tests/program/support/readme.py and readme_rooms.py) finds each way in which README can be wrong."""
+"""The README player (tests/program/support/readme.py and readme_rooms.py) finds each way in which README can be wrong.
+"""
 
 import os
 from pathlib import Path

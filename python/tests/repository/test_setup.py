@@ -1,4 +1,5 @@
-"""`make test` begins with scripts/setup.sh, which installs what it can, names what it can't, and never stops the gate."""
+"""`make test` begins with scripts/setup.sh, which installs what it can, names what it can't, and never stops the gate.
+"""
 
 import os
 import re

@@ -1,4 +1,5 @@
-"""scripts/surface.py: it reads a source as laid out by `rt fmt`, and reports calls that aren't as listed in the table."""
+"""scripts/surface.py: it reads a source as laid out by `rt fmt`, and reports calls that aren't as listed in the table.
+"""
 
 import shutil
 import subprocess

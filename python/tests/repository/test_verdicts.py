@@ -1,4 +1,5 @@
-"""scripts/verdicts.py and its rule: a verdict is valid for the files that it was made for, and is compared with the page."""
+"""scripts/verdicts.py and its rule: a verdict is valid for the files that it was made for, and is compared with the
+page."""
 
 
 from tests.support.small_tree import LOG, SmallTree

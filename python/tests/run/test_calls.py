@@ -1,5 +1,5 @@
-"""Calls instead of steps: nrdb finds in a recording exactly the calls that the goroutines of random traffic made, with the same steps and
-results; and the destinations of `next`, `finish` and their reverses."""
+"""Calls instead of steps: nrdb finds in a recording exactly the calls that the goroutines of random traffic made, with
+the same steps and results; and the destinations of `next`, `finish` and their reverses."""
 
 import random
 from typing import Any, NamedTuple

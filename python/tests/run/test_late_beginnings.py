@@ -1,5 +1,5 @@
-"""Answers about a recording that begins in the middle of a run: they claim nothing about the time before, and name no goroutine for the
-steps that lead to the first state."""
+"""Answers about a recording that begins in the middle of a run: they claim nothing about the time before, and name no
+goroutine for the steps that lead to the first state."""
 
 from typing import Any
 

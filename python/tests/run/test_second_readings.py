@@ -91,8 +91,8 @@ def test_holders_are_those_whose_steps_changed_the_count(seed: int) -> None:
 
 
 def timers(steps: Steps) -> dict[int, tuple[object, ...]]:
-    """For each `pop` and `fire`, the timer: its sides, descriptor and socket, when it was due, the step that set its side's deadline and
-    thus armed it, that step's goroutine, and whether the timer is stale."""
+    """For each `pop` and `fire`, the timer: its sides, descriptor and socket, when it was due, the step that set its
+    side's deadline and thus armed it, that step's goroutine, and whether the timer is stale."""
     setters: dict[tuple[int, str], tuple[int, int]] = {}
     armed: dict[int, tuple[object, ...]] = {}
     found: dict[int, tuple[object, ...]] = {}

@@ -1,4 +1,5 @@
-"""NAME.where with any contents: nrdb uses it, or rejects it with the reason. Files are written atomically, and never over the recording."""
+"""NAME.where with any contents: nrdb uses it, or rejects it with the reason. Files are written atomically, and never
+over the recording."""
 
 import json
 import os

@@ -18,8 +18,8 @@ from netrev.system.interrupts import Interrupts, SessionAbandonedError
 
 
 class Scripted(Netrev):
-    """Answers each `print N` with `clock = N`, ends at `print end`, and sends an endless line for `print strange`. Stores the
-    lines of each write."""
+    """Answers each `print N` with `clock = N`, ends at `print end`, and sends an endless line for `print strange`.
+    Stores the lines of each write."""
 
     def __init__(self) -> None:
         super().__init__(Interrupts())

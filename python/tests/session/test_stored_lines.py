@@ -2,7 +2,8 @@
 Because the texts are long, a checksum is stored for every few answers.
 
     /usr/bin/python3 python tests.session.test_stored_lines         stores new checksums
-    /usr/bin/python3 python tests.session.test_stored_lines NAME    prints a recording's answers, to compare them with earlier answers"""
+    /usr/bin/python3 python tests.session.test_stored_lines NAME    prints a recording's answers, to compare them with earlier answers
+"""
 
 import hashlib
 import json

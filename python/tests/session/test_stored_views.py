@@ -1,7 +1,7 @@
 """All that nrdb prints at some positions of a few recordings, the data of their timelines, and their traces.
 
-`/usr/bin/python3 python tests.session.test_stored_views` stores the current output, with a Python that has pytest; read the difference before you
-commit it."""
+`/usr/bin/python3 python tests.session.test_stored_views` stores the current output, with a Python that has pytest; read
+the difference before you commit it."""
 
 import json
 import sys

@@ -76,8 +76,9 @@ class Waiting:
         return out.getvalue(), request
 
     def searched(self, count: int, sockets: int, with_lines: bool) -> tuple[int, int, int]:
-        """How much work `info goroutines` does with `count` waiters at each of `sockets` sockets. Returns three numbers:
-        queries other than those for statuses, searches of the recording's text, and pieces of text that are searched.
+        """How much work `info goroutines` does with `count` waiters at each of `sockets` sockets. Returns three
+        numbers: queries other than those for statuses, searches of the recording's text, and pieces of text that are
+        searched.
         """
         request, work = Counter[str](), Counter[str]()
         text = waiters(count, sockets)

@@ -1,5 +1,5 @@
-"""The rules about requests and answers, datagrams from other addresses, failed dials and ended contexts, clause by clause: a row for each clause
-that doesn't hold, and for each side of a boundary."""
+"""The rules about requests and answers, datagrams from other addresses, failed dials and ended contexts, clause by
+clause: a row for each clause that doesn't hold, and for each side of a boundary."""
 
 import re
 from pathlib import Path

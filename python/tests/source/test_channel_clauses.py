@@ -1,5 +1,5 @@
-"""The rules about channels that a function made, about calls of net/rpc and about slots, clause by clause: a row for each clause that doesn't
-hold, and for each side of a boundary."""
+"""The rules about channels that a function made, about calls of net/rpc and about slots, clause by clause: a row for
+each clause that doesn't hold, and for each side of a boundary."""
 
 from types import SimpleNamespace as Made
 from typing import Any, cast

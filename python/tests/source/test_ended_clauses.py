@@ -1,4 +1,5 @@
-"""The rules about contexts that ended and mutexes that stay locked, clause by clause, and the last time of a recording."""
+"""The rules about contexts that ended and mutexes that stay locked, clause by clause, and the last time of a recording.
+"""
 
 from types import SimpleNamespace as Made
 from typing import Any, NamedTuple, cast

@@ -1,5 +1,5 @@
-"""The rules about reads and writes of a connection's two ends, clause by clause: waits for a connect or a deadline, bytes that were never read,
-readers that ended, and flushes."""
+"""The rules about reads and writes of a connection's two ends, clause by clause: waits for a connect or a deadline,
+bytes that were never read, readers that ended, and flushes."""
 
 from types import SimpleNamespace as Made
 from typing import Any, cast

@@ -1,5 +1,5 @@
-"""Facts from the source of a package: types of variables and fields, functions that write into buffers and flush them, and channels with
-the same name."""
+"""Facts from the source of a package: types of variables and fields, functions that write into buffers and flush them,
+and channels with the same name."""
 
 from pathlib import Path
 

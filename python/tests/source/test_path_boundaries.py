@@ -1,5 +1,5 @@
-"""The rules about loops' variables, contexts, timeouts and bodies that stay open, clause by clause: a row for each clause that doesn't hold, and
-for each side of a boundary."""
+"""The rules about loops' variables, contexts, timeouts and bodies that stay open, clause by clause: a row for each
+clause that doesn't hold, and for each side of a boundary."""
 
 from pathlib import Path
 from types import SimpleNamespace as Made

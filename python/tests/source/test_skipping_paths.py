@@ -1,5 +1,6 @@
-"""Tests the rules about paths that skip a needed call, on functions of a few lines and on the recordings of tools/go/samples/skips. In each
-of these recordings, a rule names its line in the first cause. It says nothing if the recording doesn't agree."""
+"""Tests the rules about paths that skip a needed call, on functions of a few lines and on the recordings of
+tools/go/samples/skips. In each of these recordings, a rule names its line in the first cause. It says nothing if the
+recording doesn't agree."""
 
 import re
 from pathlib import Path
@@ -194,7 +195,8 @@ def test_what_gives_something_back(text: str, pattern: str) -> None:
 
 
 def first_cause(recording: Recording) -> str:
-    """The first cause that nrdb shows for a recording, if the program's source exists and isn't newer than the recording."""
+    """The first cause that nrdb shows for a recording, if the program's source exists and isn't newer than the
+    recording."""
     recording.lines.written = float("inf")
     with in_the_folder_of_the_source(SKIPS):
         return "\n".join(first_words(recording, "skips")).split("\ncause:")[0]

@@ -1,5 +1,5 @@
-"""The rules of causes that read the program's source, at their boundaries: a row for each side of a boundary, with a source of a few lines
-and made-up waits."""
+"""The rules of causes that read the program's source, at their boundaries: a row for each side of a boundary, with a
+source of a few lines and made-up waits."""
 
 import re
 from pathlib import Path

@@ -1,5 +1,5 @@
-"""Makes changes in a copy of Go 1.27, as a future release of Go may have them. doctor must name each change, and nothing
-may be recorded. It needs netrev, and Go 1.27 or Debian's packages of it; `make real` runs it."""
+"""Makes changes in a copy of Go 1.27, as a future release of Go may have them. doctor must name each change, and
+nothing may be recorded. It needs netrev, and Go 1.27 or Debian's packages of it; `make real` runs it."""
 
 import contextlib
 import os

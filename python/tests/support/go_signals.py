@@ -1,5 +1,5 @@
-"""Tests the copies of a log that a program makes on SIGUSR2, if the program's owner has turned on such copies. It needs Go
-and netrev; `make real` runs it."""
+"""Tests the copies of a log that a program makes on SIGUSR2, if the program's owner has turned on such copies. It needs
+Go and netrev; `make real` runs it."""
 
 import os
 import pathlib

@@ -1,6 +1,6 @@
 """Runs a session of nrdb in which an event happens at some point in its communication with netrev. The session's output
-must be the same as without the event, or a part of that output. `tests.session.test_interrupts` uses a model of netrev, and
-`tests.program.nrdb.test_slow` uses the built program."""
+must be the same as without the event, or a part of that output. `tests.session.test_interrupts` uses a model of netrev,
+and `tests.program.nrdb.test_slow` uses the built program."""
 
 import io
 import json

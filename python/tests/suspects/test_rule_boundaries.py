@@ -1,4 +1,5 @@
-"""Rules of nrdb and the recorder at their boundaries: a row for each side of a boundary, with made-up values, operations and sessions."""
+"""Rules of nrdb and the recorder at their boundaries: a row for each side of a boundary, with made-up values,
+operations and sessions."""
 
 import io
 from collections import deque

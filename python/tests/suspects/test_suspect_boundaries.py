@@ -1,5 +1,6 @@
-"""The rules of `info suspects` at their boundaries: for each limit, the greatest allowed value and one more. Other tests make the same steps
-with another goroutine, on another descriptor, with a deadline, or in another use of a descriptor."""
+"""The rules of `info suspects` at their boundaries: for each limit, the greatest allowed value and one more. Other
+tests make the same steps with another goroutine, on another descriptor, with a deadline, or in another use of a
+descriptor."""
 
 from typing import Any, NamedTuple
 

@@ -255,7 +255,8 @@ def test_it_is_shown_where_bytes_are_unread_but_not_in_accept(name: str, is_show
 
 
 def test_a_goroutine_that_has_read_since_is_doubtful() -> None:
-    """A read that gets fewer bytes than it asks for isn't an EAGAIN, so netrev lists the wait after it; but nothing is unread."""
+    """A read that gets fewer bytes than it asks for isn't an EAGAIN, so netrev lists the wait after it; but nothing is
+    unread."""
     steps = PAIRS["lost wake-up"].good
     assert len(Reading(recording_of(steps)).lines) == 1 and found(recording_of(steps)) == []
     assert [suspect.rule for suspect in found(recording_of([*steps[:3], ["arrive", 0, "00" * 16], *steps[4:]]))] == []
@@ -291,7 +292,8 @@ def test_planted_bugs_have_the_same_suspects(bug: Bug | None) -> None:
 
 
 def test_random_recordings_have_the_same_facts_by_the_notes() -> None:
-    """The rules find the same facts from nrdb's notes as from netrev's list. Searches and older netrevs have only the notes."""
+    """The rules find the same facts from nrdb's notes as from netrev's list. Searches and older netrevs have only the
+    notes."""
     lost = passed = ended = back = 0
     for seed in range(200):
         dice = random.Random(f"suspects {seed}")

@@ -18,8 +18,8 @@ POLL = "internal/poll."
 
 
 def found(steps: Steps, functions: list[str] | None, others: str = "main.main") -> list[object]:
-    """The rules that find suspects if the steps of goroutine 1 come from these functions of internal/poll, one after another; without
-    functions, no lines are known."""
+    """The rules that find suspects if the steps of goroutine 1 come from these functions of internal/poll, one after
+    another; without functions, no lines are known."""
     recording = recording_of(OPEN + steps + WHILE)
     if functions is not None:
         recording.lines = lines_of(OPEN + steps + WHILE, functions, others)

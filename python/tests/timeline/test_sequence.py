@@ -1,4 +1,5 @@
-"""The sequence diagram of `report`: each step occurs once, in order, the steps of the story have notes, and text from a recording is escaped."""
+"""The sequence diagram of `report`: each step occurs once, in order, the steps of the story have notes, and text from a
+recording is escaped."""
 
 import re
 from pathlib import Path

@@ -1,5 +1,5 @@
-"""The trace for Perfetto: its events have the right form, slices of a thread are nested or consecutive, and each flow leads from one slice
-to another; statuses equal the model's."""
+"""The trace for Perfetto: its events have the right form, slices of a thread are nested or consecutive, and each flow
+leads from one slice to another; statuses equal the model's."""
 
 import gzip
 import json

@@ -87,7 +87,8 @@ def build(go: Go, source: pathlib.Path, program: pathlib.Path) -> None:
 
 
 def recorded(go: Go, program: pathlib.Path, words: list[str], name: pathlib.Path) -> int:
-    """Records a run as NAME.jsonl, with its lines, and returns the program's status. Must be called in the folder of the source."""
+    """Records a run as NAME.jsonl, with its lines, and returns the program's status. Must be called in the folder of
+    the source."""
     with tempfile.TemporaryDirectory() as folder:
         settings = {"NETREV_LOG": f"{folder}/log", "NETREV_POINTS": "65536"}
         run = subprocess.run([program, *words], env=os.environ | settings, capture_output=True, check=False)

@@ -1,7 +1,8 @@
 """Sends netrev-go SIGQUIT, SIGHUP, SIGTERM and SIGKILL in turn, at random times during `run` and `test`, and counts the
 runs that are lost. It needs Go and netrev.
 
-    python3 python tests.trials.go_killed [--runs N] [--seed S] [RELEASE ..]    prints a line for each run, and the totals"""
+    python3 python tests.trials.go_killed [--runs N] [--seed S] [RELEASE ..]    prints a line for each run, and the totals
+"""
 
 import argparse
 import os

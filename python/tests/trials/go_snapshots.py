@@ -1,11 +1,11 @@
-"""Makes snapshots of three programs at random moments while they run, on one processor and on four, and compares each answer and each lock
-word with the machine's.
+"""Makes snapshots of three programs at random moments while they run, on one processor and on four, and compares each
+answer and each lock word with the machine's.
 
     python3 python tests.trials.go_snapshots [--each N] [--points N] [--seed S] [--netrev] [RELEASE ..]
 
-It prints a line for each program and number of processors: the numbers of snapshots, steps and lock words, and what was left out. The
-model in Python makes the comparison, or, with --netrev, netrev does. The exit status is 1 if a snapshot isn't accepted or a lock word
-differs."""
+It prints a line for each program and number of processors: the numbers of snapshots, steps and lock words, and what was
+left out. The model in Python makes the comparison, or, with --netrev, netrev does. The exit status is 1 if a snapshot
+isn't accepted or a lock word differs."""
 
 import argparse
 import gc

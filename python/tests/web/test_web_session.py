@@ -1,5 +1,5 @@
-"""The session behind the page, with a model of netrev: who moved and where to, what the page refuses, and the messages when netrev ends and
-when it is back."""
+"""The session behind the page, with a model of netrev: who moved and where to, what the page refuses, and the messages
+when netrev ends and when it is back."""
 
 import json
 import sys

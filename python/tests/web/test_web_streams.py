@@ -1,5 +1,5 @@
-"""The page's server with many clients at once: requests, silent connections, and event streams; the contents of streams; and the end of the
-server."""
+"""The page's server with many clients at once: requests, silent connections, and event streams; the contents of
+streams; and the end of the server."""
 
 import socket
 import threading

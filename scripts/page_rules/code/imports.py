@@ -1,8 +1,8 @@
 """Checks CONTRIBUTING.md's table of Python folders: each module but `__init__.py` has a row, and imports only modules
 of its own row and of rows above it.
 
-A row is a folder below python/ with the folders in it, or some files of such a folder. A module belongs to the row with the longest matching
-path. So no two rows import each other. A folder has at most MOST modules.
+A row is a folder below python/ with the folders in it, or some files of such a folder. A module belongs to the row with
+the longest matching path. So no two rows import each other. A folder has at most MOST modules.
 """
 
 import ast
@@ -32,7 +32,8 @@ class Row:
         return self.places[0]
 
     def fits(self, path: str) -> int:
-        """The length of the row's longest path that contains the module; 0 if none contains it. `path` is relative to python/."""
+        """The length of the row's longest path that contains the module; 0 if none contains it. `path` is relative to
+        python/."""
         return max((len(place) for place in self.places if f"{path}/".startswith(f"{place}/")), default=0)
 
 

@@ -25,7 +25,8 @@ def forgotten(tree: Tree) -> Iterator[Finding]:
                 yield Finding(path, number, f"{found[0]} leaks memory, and is allowed only in {MAY_FORGET}")
 
 
-# places that only name the library's error type: a function's result, a conversion from the error, and an import without renaming
+# places that only name the library's error type: a function's result, a conversion from the error, and an import
+# without renaming
 TYPE = re.compile(
     r", AllocError>|\bFrom<AllocError>|\bfn from\(\w+: AllocError\)|^use std::alloc::(?:AllocError|\{[\w, ]*\});$"
 )
@@ -36,7 +37,8 @@ SAID = re.compile(r"\b(?:\w+::OutOfMemory|Category::Memory)\b.*=>")
 # the line that reports a refusal
 PRINTED = re.compile(r'"fault 108 memory')
 MESSAGE = re.compile(r"\s*#\[error\(")
-# CARRIES defines the type that carries a refusal; PRINTS defines the faults that contain a refusal and print the line above
+# CARRIES defines the type that carries a refusal; PRINTS defines the faults that contain a refusal and print the line
+# above
 CARRIES = "crates/nr_rev/src/memory.rt"
 PRINTS = "crates/nr_recording/src/fault.rt"
 

@@ -1,8 +1,10 @@
-"""Checks that the calls that reach a stream, a caller or a log are made only in the places that docs/proof/TRUSTED.md lists.
+"""Checks that the calls that reach a stream, a caller or a log are made only in the places that docs/proof/TRUSTED.md
+lists.
 
-The laws are about logs. If a call bypassed the logs, for example because the reader was taken out of its source, no log would have the call.
-A log could also have an entry without a call. So each such call in the program's sources is listed here with the functions that make it. No contract checks
-some of these functions; TRUSTED lists them in its table of code that is read by eye.
+The laws are about logs. If a call bypassed the logs, for example because the reader was taken out of its source, no log
+would have the call. A log could also have an entry without a call. So each such call in the program's sources is listed
+here with the functions that make it. No contract checks some of these functions; TRUSTED lists them in its table of
+code that is read by eye.
 """
 
 import re
@@ -99,7 +101,8 @@ def _made(tree: Tree) -> dict[str, Counter[tuple[str, str]]]:
 
 
 def _by_eye(tree: Tree, calls_by_name: dict[str, Counter[tuple[str, str]]]) -> Iterator[Finding]:
-    """Code that must be reviewed by hand but is missing from TRUSTED's table, and rows of the table that need no review."""
+    """Code that must be reviewed by hand but is missing from TRUSTED's table, and rows of the table that need no
+    review."""
     text = tree.text(PAGE)
     if HEADING not in text:
         return
@@ -122,7 +125,8 @@ def _by_eye(tree: Tree, calls_by_name: dict[str, Counter[tuple[str, str]]]) -> I
 
 
 def raw_calls(tree: Tree) -> Iterator[Finding]:
-    """Calls that bypass the logs, calls that a function makes more or less often than listed, and differences from TRUSTED's table."""
+    """Calls that bypass the logs, calls that a function makes more or less often than listed, and differences from
+    TRUSTED's table."""
     calls_by_name = _made(tree)
     for call, functions in calls_by_name.items():
         wanted = CALLS[call]

@@ -241,8 +241,8 @@ class Traffic(LittleProgram):
                 return
 
     def raw_read(self, g: int, s: int) -> Turns:
-        """`RawConn.Read`: the program's function tries to read, and returns whether it is done. With the bug, the function
-        returns without trying to read."""
+        """`RawConn.Read`: the program's function tries to read, and returns whether it is done. With the bug, the
+        function returns without trying to read."""
         if not (yield from self.rwlock(g, s, "r")):
             return False
         code = yield from self.reset(g, s, "r")

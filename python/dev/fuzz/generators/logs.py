@@ -1,5 +1,5 @@
-"""Logs of the recorder as text, for reading and writing: JSON lines for the header, each stack, the source line of each address, and each
-point, in the form of `netrev_go.log.points.Point`."""
+"""Logs of the recorder as text, for reading and writing: JSON lines for the header, each stack, the source line of each
+address, and each point, in the form of `netrev_go.log.points.Point`."""
 
 import json
 import struct
@@ -15,8 +15,8 @@ Symbols = dict[int, tuple[str, str, int]]
 
 
 class HolderRow(NamedTuple):
-    """A row of the table of locked mutexes: the mutex (0 if the row is free), the goroutine that holds it, whether for reading, the number
-    of earlier points, and the addresses of the calls that locked it."""
+    """A row of the table of locked mutexes: the mutex (0 if the row is free), the goroutine that holds it, whether for
+    reading, the number of earlier points, and the addresses of the calls that locked it."""
 
     address: int
     goroutine: int = 0

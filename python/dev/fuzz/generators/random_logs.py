@@ -385,8 +385,8 @@ def wrong_with(program: RandomProgram, check: Check = lambda _: "") -> str:
 
 
 def wrong_by(seed: str, folder: Path, netrev: str) -> str:
-    """The fault in the recording made from a seed's log; empty if the recording is right. The model checks it. For some seeds, netrev
-    checks it too."""
+    """The fault in the recording made from a seed's log; empty if the recording is right. The model checks it. For some
+    seeds, netrev checks it too."""
 
     def check(recording: NewRecording) -> str:
         path = folder / "made.jsonl"
@@ -422,7 +422,8 @@ def replayed(recording: NewRecording) -> tuple[Machine, list[tuple[Step, Any]], 
 def differs(
     program: RandomProgram, log: Log, recording: NewRecording, machine: Machine, steps: list[tuple[Step, Any]]
 ) -> str:
-    """What the recording lacks from the log: the final state of sockets and descriptors, the bytes, and each goroutine's steps."""
+    """What the recording lacks from the log: the final state of sockets and descriptors, the bytes, and each
+    goroutine's steps."""
     sockets = sockets_of(program, log, recording)
     if not log.points or log.points[0].number == 0:
         if len(sockets) != sum(fd.pd is not None for fd in program.all):
@@ -500,7 +501,8 @@ def bytes_differ(points: list[tuple[Point, int]], steps: list[tuple[Step, Any]])
 
 
 def order_differs(recording: NewRecording, points: list[tuple[Point, int]], steps: list[tuple[Step, Any]]) -> str:
-    """The first step of a goroutine that differs from the log. Reads and writes aren't compared, because they may be split."""
+    """The first step of a goroutine that differs from the log. Reads and writes aren't compared, because they may be
+    split."""
     names = {number: name for name, number in recording.numbers.items()}
     expected = [
         (SPELLED[PointKind(point.kind)], point.goroutine, answer_of(point))

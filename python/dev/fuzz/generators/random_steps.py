@@ -1,6 +1,6 @@
-"""Random recordings. Most steps are a goroutine's next step, or possible actions of the network, the poller and the clock, so
-that waits, queues, timers, evictions and full buffers occur. The frequencies differ from recording to recording: most have a
-theme."""
+"""Random recordings. Most steps are a goroutine's next step, or possible actions of the network, the poller and the
+clock, so that waits, queues, timers, evictions and full buffers occur. The frequencies differ from recording to
+recording: most have a theme."""
 
 import random
 from collections.abc import Iterator, Sequence

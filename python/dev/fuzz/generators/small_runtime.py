@@ -1,6 +1,6 @@
-"""A small runtime that logs the recorder's points, modelled on internal/poll/fd_mutex.go and runtime/netpoll.go. It shares no code with
-the model in Python: whether its log becomes a recording shows whether the two agree. A function that may be interrupted is a generator,
-which yields after each of its points."""
+"""A small runtime that logs the recorder's points, modelled on internal/poll/fd_mutex.go and runtime/netpoll.go. It
+shares no code with the model in Python: whether its log becomes a recording shows whether the two agree. A function
+that may be interrupted is a generator, which yields after each of its points."""
 
 from __future__ import annotations
 

@@ -1,4 +1,5 @@
-"""Recordings as text: well formed in one of many ways, random bytes, random JSON, and numbers at the limits of a line's arguments."""
+"""Recordings as text: well formed in one of many ways, random bytes, random JSON, and numbers at the limits of a line's
+arguments."""
 
 import json
 import random

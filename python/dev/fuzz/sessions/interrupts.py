@@ -39,8 +39,8 @@ def confined() -> Iterator[None]:
 
 
 def heard(run: Callable[[], Of]) -> Of:
-    """The result of a call that a Ctrl-C may interrupt, for use within `confined`. It isn't a context manager, because the exception of a
-    Ctrl-C could be raised in the manager's own code before it blocks the signal again."""
+    """The result of a call that a Ctrl-C may interrupt, for use within `confined`. It isn't a context manager, because
+    the exception of a Ctrl-C could be raised in the manager's own code before it blocks the signal again."""
     try:
         signal.pthread_sigmask(signal.SIG_UNBLOCK, CTRL_C)
         return run()

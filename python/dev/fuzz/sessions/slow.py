@@ -34,8 +34,8 @@ class Slow(Own):
         return super()._next(sent)
 
     def while_stopped(self, *happening: Callable[[], None]) -> None:
-        """Stops netrev, lets these events happen one after another, and continues it. If no reply is awaited, or netrev is already stopped,
-        they happen at once."""
+        """Stops netrev, lets these events happen one after another, and continues it. If no reply is awaited, or netrev
+        is already stopped, they happen at once."""
         if not self._waits or (self._meanwhile and self._meanwhile.is_alive()):
             for happens in happening:
                 happens()

@@ -217,7 +217,8 @@ class Judge:
         return self.differs(line, shown, right)
 
     def wrong_changed(self, line: str, rows: Rows, rest: str) -> str:
-        """Checks the cells that nrdb prints for the last step. They must be exactly the cells whose values the step changed."""
+        """Checks the cells that nrdb prints for the last step. They must be exactly the cells whose values the step
+        changed."""
         shown = sorted((row["cell"], row["old"], row["new"]) for row in rows)
         numbers = {
             Of.ALL: [""],

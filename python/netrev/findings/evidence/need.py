@@ -19,13 +19,13 @@ class Certainty(IntEnum):
 class Need(NamedTuple):
     """What a waiting goroutine needs. `says` has sentences about this need. `by` is the goroutine that could end the
     wait, `how` is a sentence about that goroutine (with `{by}` for its name), and `certainty` is the strength of the
-    evidence. If a goroutine could have gone on but is in no call, `stopped` is a step of that goroutine's last
-    call. `more` has sentences that are also shown for a deadlock. If `is_plain`, these sentences give no reason,
-    but say what the Read looks for. `is_odd` means that something is wrong here, such as goroutines of one `go`
-    statement that differ in what they did. `gone` is an ended goroutine that once did what is needed now, `ended` are
-    goroutines that ended without doing it, and `others` are further candidates for `by`. `is_kept` means that calls
-    took what is needed, ended, and never gave it back, so no waiter has it. `beside` has sentences to add if `by` itself
-    waits for another goroutine."""
+    evidence. If a goroutine could have gone on but is in no call, `stopped` is a step of that goroutine's last call.
+    `more` has sentences that are also shown for a deadlock. If `is_plain`, these sentences give no reason, but say what
+    the Read looks for. `is_odd` means that something is wrong here, such as goroutines of one `go` statement that
+    differ in what they did. `gone` is an ended goroutine that once did what is needed now, `ended` are goroutines that
+    ended without doing it, and `others` are further candidates for `by`. `is_kept` means that calls took what is
+    needed, ended, and never gave it back, so no waiter has it. `beside` has sentences to add if `by` itself waits for
+    another goroutine."""
 
     says: list[str]
     by: Name | None = None

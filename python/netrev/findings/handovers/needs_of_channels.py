@@ -104,7 +104,8 @@ class NeedsOfChannels:
         )
 
     def _of_slots(self, wait: ObjectWait) -> Need | None:
-        """What a goroutine needs while it waits for a slot of a semaphore. The need names a goroutine that holds a slot."""
+        """What a goroutine needs while it waits for a slot of a semaphore. The need names a goroutine that holds a
+        slot."""
         key = "slots", wait.stack.own(), wait.objects
         need = self._once(
             key, lambda: of_slots(self._recording, wait._replace(name=NOBODY), self._stacks, self._waiters)
@@ -219,7 +220,8 @@ class NeedsOfChannels:
         return ended_giver(run_of(self._recording), wait) or Need([])
 
     def _of_the_past(self, wait: ObjectWait, operations: list[Operation], closing: Need | None) -> Need:
-        """What a goroutine needs if no waiting goroutine did the awaited operation. The need says which other goroutine did it last, if any."""
+        """What a goroutine needs if no waiting goroutine did the awaited operation. The need says which other goroutine
+        did it last, if any."""
         for operation in operations:
             loop = loop_words(self._recording, operation.stack) if has_ended(self._recording, operation.name) else ""
             did = (

@@ -139,8 +139,8 @@ class MutexHolders:
         return Need([says, *returns_locked(self._recording, call)], is_odd=True, gone=holder.name)
 
     def _of_nobody(self, wait: ObjectWait) -> Need:
-        """What a goroutine needs if no goroutine holds the mutex. If the waiter has waited for more than a moment, the mutex may be
-        a copy of a locked mutex."""
+        """What a goroutine needs if no goroutine holds the mutex. If the waiter has waited for more than a moment, the
+        mutex may be a copy of a locked mutex."""
         times = self._recording.lines.times
         if not times or times[-1] - wait.begin < A_MOMENT:
             return Need([])

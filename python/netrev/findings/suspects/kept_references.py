@@ -31,8 +31,8 @@ class KeptReference(NamedTuple):
         return not self.is_gone and is_of_close and bool(self.pause or self.age)
 
     def suspect(self, run: Run, how: str, open_and_closed: tuple[Weight, Weight]) -> Suspect:
-        """A suspect that reports this reference. `how` says how the reference is held, and the weights are for an open and
-        for a closed socket."""
+        """A suspect that reports this reference. `how` says how the reference is held, and the weights are for an open
+        and for a closed socket."""
         (g, step, kind, side), s, notes = self.hold, self.socket, run.notes
         lock = f" {NAMES[side]}" if side else ""
         says = [f"goroutine {g} holds a reference of socket {s} since step {step} ({kind}{lock}) {how}"]

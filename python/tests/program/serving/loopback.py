@@ -387,8 +387,8 @@ def stays_behind_quit(caller):
 
 
 def test_hostile(parked):
-    """Each of these callers disconnects in the middle, or misuses its connection. The next caller of the front is served at the front's position,
-    and the session ends."""
+    """Each of these callers disconnects in the middle, or misuses its connection. The next caller of the front is
+    served at the front's position, and the session ends."""
     for leave, status, position, placed in (
         (half_a_line, 0, 3, 2),
         (half_a_line_and_reset, 3, 3, 1),

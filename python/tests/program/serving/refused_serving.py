@@ -2,10 +2,11 @@
 
 Two callers, each at its own front, send fixed lines one after the other, so the right replies are known: first over a
 short recording, which one worker searches, then over a recording of more than three thousand steps, which three workers
-search. The second case refuses only allocations that are made while callers are served, because the earlier ones are like
-those in the first case. The allocations come in the same order each time, except those of threads that are starting. Several
-sessions run at the same time. The tests refuse allocations with ever higher numbers. They stop when the last AT_A_TIME
-sessions had no allocation to refuse. A refused allocation must be reported once, and in one of these ways:
+search. The second case refuses only allocations that are made while callers are served, because the earlier ones are
+like those in the first case. The allocations come in the same order each time, except those of threads that are
+starting. Several sessions run at the same time. The tests refuse allocations with ever higher numbers. They stop when
+the last AT_A_TIME sessions had no allocation to refuse. A refused allocation must be reported once, and in one of these
+ways:
 
 - before a caller is served, as `fault 108 memory`, with status 1;
 - as `fault 301 memory` in place of a reply, if the line is a query or first has to complete another front's search; the
@@ -32,8 +33,8 @@ from .loopback import PARKED
 
 
 class Played(NamedTuple):
-    """The result of a session: whether an allocation was refused, how often that was reported, whether callers were served,
-    and whether the number of their commands was reported."""
+    """The result of a session: whether an allocation was refused, how often that was reported, whether callers were
+    served, and whether the number of their commands was reported."""
 
     refused: bool
     told: int

@@ -28,8 +28,8 @@ def ask_much(caller):
 
 
 def end_and_reset(caller):
-    """Resets the connection after netrev has read to the end of the lines. netrev's write then fails with the same error
-    as a write to a closed pipe."""
+    """Resets the connection after netrev has read to the end of the lines. netrev's write then fails with the same
+    error as a write to a closed pipe."""
     caller.shutdown(socket.SHUT_WR)
     reset(caller)
 

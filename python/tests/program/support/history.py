@@ -9,9 +9,9 @@ gets the reply that says so.
 The search goes from the beginning, and decides at each point which front's line comes next. If a line is a query or got
 a fault, and its reply fits here, the search takes the line at once. This loses no history, because the line changes
 nothing and could come this early in any history. If several commands fit, the search first tries the commands whose
-replies show where they began (such as the reply to `stepi`). The search doesn't leave a position if remaining lines need
-the position and can't reach it again. It doesn't delete a mark that another line still shows. It doesn't enter the same
-state with the same remaining lines twice.
+replies show where they began (such as the reply to `stepi`). The search doesn't leave a position if remaining lines
+need the position and can't reach it again. It doesn't delete a mark that another line still shows. It doesn't enter the
+same state with the same remaining lines twice.
 """
 
 from __future__ import annotations
@@ -210,8 +210,8 @@ class Search:
                 self.take(*choice)
 
     def may_go_now(self, front: int) -> bool:
-        """Whether the front's next line may come as soon as it fits. This holds if the line deletes a mark or checkpoint,
-        and no reply of the session says that there is no room for more of them."""
+        """Whether the front's next line may come as soon as it fits. This holds if the line deletes a mark or
+        checkpoint, and no reply of the session says that there is no room for more of them."""
         return bool(self.clue_of(front).takes_away) and not self.are_full
 
     def worth(self, choice: Choice) -> tuple[bool, int]:

@@ -1,8 +1,9 @@
 """Runs README.md's commands as a reader would, and compares their output with README.
 
-In a block of README, each line begins with four spaces. `$ ` begins a command, and `(netrev) ` begins a line at the prompt
-that the last command opened. Other lines are output, and `...` matches any lines. If the text above a block says that
-numbers differ from run to run, any number matches any other. If a block shows no output of a command, the command only has to succeed.
+In a block of README, each line begins with four spaces. `$ ` begins a command, and `(netrev) ` begins a line at the
+prompt that the last command opened. Other lines are output, and `...` matches any lines. If the text above a block says
+that numbers differ from run to run, any number matches any other. If a block shows no output of a command, the command
+only has to succeed.
 """
 
 import re

@@ -122,9 +122,9 @@ PORTS = Ports()
 
 
 class Server:
-    """A netrev that serves a recording on ports of its own, or on `port` and the ports after it. `before` is called with the first port
-    before netrev starts. The command `through`, if given, starts netrev. Each search uses the given number of workers.
-    Without a number of connections, it serves until it is stopped."""
+    """A netrev that serves a recording on ports of its own, or on `port` and the ports after it. `before` is called
+    with the first port before netrev starts. The command `through`, if given, starts netrev. Each search uses the given
+    number of workers. Without a number of connections, it serves until it is stopped."""
 
     def __init__(self, recording, fronts=1, connections=1, journal=4096, workers=1, through=(), before=None, port=None):
         self.errors = tempfile.TemporaryFile()

@@ -1,5 +1,5 @@
-"""nrdb and netrev-go print commands for the user to type. Each must run in the folder in which it was printed: from a clone,
-after `make install`, and from the archive's tree in a folder with a blank in its name."""
+"""nrdb and netrev-go print commands for the user to type. Each must run in the folder in which it was printed: from a
+clone, after `make install`, and from the archive's tree in a folder with a blank in its name."""
 
 import os
 import re

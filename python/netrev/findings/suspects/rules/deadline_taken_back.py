@@ -1,4 +1,5 @@
-"""Deadline taken back too soon: a deadline that has passed is moved before the goroutine that it woke has checked why it was woken."""
+"""Deadline taken back too soon: a deadline that has passed is moved before the goroutine that it woke has checked why
+it was woken."""
 
 from collections.abc import Iterator
 

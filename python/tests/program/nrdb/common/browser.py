@@ -18,7 +18,8 @@ needs_chromium = pytest.mark.skipif(not CHROMIUM, reason=NO_CHROMIUM)
 PATIENCE = 60  # seconds
 LIGHT, DARK = 1, 0  # the colour schemes that a browser may ask for
 
-# Functions for a script in the page. They turn the wheel, press keys, move the pointer, and read texts and pixels. `wrong` collects errors.
+# Functions for a script in the page. They turn the wheel, press keys, move the pointer, and read texts and pixels.
+# `wrong` collects errors.
 HANDS = """
 const wrong = [];
 addEventListener("error", (event) => wrong.push(String(event.message)));

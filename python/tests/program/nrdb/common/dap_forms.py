@@ -1,5 +1,5 @@
-"""The forms of an adapter's messages in the Debug Adapter Protocol's published specification: their required fields, optional fields (`?`),
-and types. A message has no other fields."""
+"""The forms of an adapter's messages in the Debug Adapter Protocol's published specification: their required fields,
+optional fields (`?`), and types. A message has no other fields."""
 
 from collections.abc import Iterable
 from typing import Any

@@ -2,7 +2,8 @@
 conversation's messages are stored.
 
     /usr/bin/python3 python tests.program.nrdb.editors.test_stored_editors            stores new checksums, with the netrev that NETREV names
-    /usr/bin/python3 python tests.program.nrdb.editors.test_stored_editors NAME-3     prints a conversation, to compare it with an earlier one"""
+    /usr/bin/python3 python tests.program.nrdb.editors.test_stored_editors NAME-3     prints a conversation, to compare it with an earlier one
+"""
 
 import hashlib
 import io

@@ -1,5 +1,5 @@
-"""The timeline's calls and findings equal nrdb's other answers. Chromium draws them, also on a phone's screen; the tests
-fold, filter, pick and save them. Skipped without chromium (Debian: apt-get install chromium)."""
+"""The timeline's calls and findings equal nrdb's other answers. Chromium draws them, also on a phone's screen; the
+tests fold, filter, pick and save them. Skipped without chromium (Debian: apt-get install chromium)."""
 
 import json
 import re
@@ -29,7 +29,8 @@ from .test_timeline_page import page_of
 pytestmark = pytest.mark.together
 
 REAL = EXAMPLES / "real"
-# for each real recording, the rule that finds its bug, the steps that the page shows for it, and a call that must be visible
+# for each real recording, the rule that finds its bug, the steps that the page shows for it, and a call that must be
+# visible
 BUGS = {
     "hijacked": ("deadline left behind", [107, 115, 186, 197], "Write · timed out · main.go:39"),
     "hung": ("hangs", [290, 299], "Read · hangs · main.go:13"),

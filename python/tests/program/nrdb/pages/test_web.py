@@ -1,5 +1,5 @@
-"""`nrdb --web`: several people follow a session's events and type lines, a terminal uses another front of the session, and
-netrev is killed. tests/web/test_web.py tests requests that don't come from the page."""
+"""`nrdb --web`: several people follow a session's events and type lines, a terminal uses another front of the session,
+and netrev is killed. tests/web/test_web.py tests requests that don't come from the page."""
 
 import json
 import socket
