@@ -8,7 +8,7 @@ from contextlib import contextmanager
 from threading import Condition, Thread, current_thread
 
 from netrev.messages import session as messages
-from netrev.recording.changes import IncompleteChangesError, RecordedChanges, StepChanges
+from netrev.recording.step_changes import IncompleteChangesError, RecordedChanges, StepChanges
 from netrev.system.interrupts import Interrupts
 
 from .netrev import READ, SILENCE

@@ -18,7 +18,7 @@ from netrev.text.files import check_name
 from netrev.text.line_starts import LineStarts
 from netrev.text.vocabulary import KINDS
 
-from .changes import RecordedChanges
+from .step_changes import RecordedChanges
 from .suspect_list import SuspectList
 from .where import SourceLines
 

@@ -17,7 +17,7 @@ from netrev.findings.hangs.hang_words import hang_queries, hang_sentences, tree_
 from netrev.findings.hangs.wait_graph import graph_at
 from netrev.findings.suspects.table import suspects_table
 from netrev.recording.answers import answer_text
-from netrev.recording.changes import IncompleteChangesError
+from netrev.recording.step_changes import IncompleteChangesError
 from netrev.recording.recording import Recording, Step
 from netrev.recording.waits import Name
 from netrev.recording.where import OF_THE_PROGRAM, stack_lines

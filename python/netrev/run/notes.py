@@ -17,7 +17,7 @@ from functools import lru_cache
 from types import MappingProxyType
 from typing import Any
 
-from netrev.recording.changes import RecordedChanges, StepChanges
+from netrev.recording.step_changes import RecordedChanges, StepChanges
 from netrev.recording.notes import (
     AT,
     CLOSING,

@@ -8,7 +8,7 @@ from itertools import islice
 from typing import NamedTuple
 
 from netrev.recording.cell_meanings import LockWord
-from netrev.recording.changes import RecordedChanges
+from netrev.recording.step_changes import RecordedChanges
 from netrev.recording.recording import Recording, Step
 from netrev.text.vocabulary import OF_A_GOROUTINE
 

@@ -25,13 +25,13 @@ from netrev.connection.shapes import (
 from netrev.connection.world import PositionValues
 from netrev.messages import session as messages
 from netrev.recording.cell_meanings import absent_words, dump_words, in_words
-from netrev.recording.changes import RecordedChanges
+from netrev.recording.step_changes import RecordedChanges
 from netrev.recording.recording import NotARecordingError, Recording
 from netrev.recording.waits import Name
 from netrev.system.interrupts import Interrupts, SearchInterruptedError, SessionAbandonedError
 from netrev.text.text_files import lines_of_script
 from netrev.text.vocabulary import cell_of
-from netrev.views.changes import tables_beside
+from netrev.views.change_tables import tables_beside
 
 from .attached_commands import Attached
 from .commands import COMMANDS, AmbiguousWordError, is_answered_here, parts_of, whole_words

@@ -9,7 +9,7 @@ from netrev.connection.netrev import Netrev
 from netrev.connection.scout import Scout
 from netrev.connection.world import COUNTED_BY, count_at, room_for
 from netrev.messages import searches as messages
-from netrev.recording.changes import RecordedChanges
+from netrev.recording.step_changes import RecordedChanges
 from netrev.recording.recording import Recording
 from netrev.session.session import UsageError
 from netrev.text.vocabulary import CELLS, Of

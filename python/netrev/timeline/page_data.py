@@ -5,7 +5,7 @@ from typing import Any
 
 from netrev.connection.shapes import ListedMark
 from netrev.machine.machine import INSIDE
-from netrev.recording.changes import RecordedChanges
+from netrev.recording.step_changes import RecordedChanges
 from netrev.recording.recording import Recording
 from netrev.run.index import run_of
 from netrev.run.owners import NONE

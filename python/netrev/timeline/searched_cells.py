@@ -4,7 +4,7 @@ and other lines aren't parsed."""
 import re
 from collections.abc import Iterator
 
-from netrev.recording.changes import RecordedChanges
+from netrev.recording.step_changes import RecordedChanges
 
 Lines = Iterator[tuple[str, str, str]]
 

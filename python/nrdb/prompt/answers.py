@@ -13,7 +13,7 @@ from netrev.run.timers import timer_words
 from netrev.session.commands import ALL_TOPICS, COMMANDS, FORMS, OF_NETREV, OF_NRDB, TOPICS, Origin, whole_command
 from netrev.session.session import Answering, Session, UsageError
 from netrev.text.vocabulary import CELLS, KINDS, REASONS, Of, cell_of, number_of
-from netrev.views.changes import history_table
+from netrev.views.change_tables import history_table
 from netrev.views.goroutines import goroutines_table
 from netrev.views.places import descriptors_table, holders_table, sockets_table, timers_table
 

@@ -7,7 +7,7 @@ import pytest
 
 from netrev.findings.causes import first_words
 from netrev.findings.causes.tables import hangs_table
-from netrev.recording.changes import RecordedChanges
+from netrev.recording.step_changes import RecordedChanges
 from netrev.recording.recording import Recording
 from netrev.run import changes as modelled_changes
 from netrev.run import changes as printed_changes

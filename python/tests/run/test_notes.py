@@ -37,7 +37,7 @@ def test_each_place_has_the_pauses_of_all_steps(monkeypatch: pytest.MonkeyPatch)
         recording, _ = Author(random.Random(f"pauses {seed}")).recording(STEPS)
         behind = Behind()
         with monkeypatch.context() as patch:
-            patch.setattr("netrev.recording.changes.WINDOW", 2 ** (seed % 14))
+            patch.setattr("netrev.recording.step_changes.WINDOW", 2 ** (seed % 14))
             notes = Notes(PlayedSteps(recording.steps), {kind: behind.made for kind in KINDS})
             pauses = behind.pauses(recording.steps)
             found = {place: (known.count, known.longest) for place, known in notes.pauses.items() if known.count}

@@ -14,9 +14,9 @@ from netrev.machine.observer import Observer
 from netrev.messages.session import COMPUTING_CHANGES
 from netrev.model.changes import changes as said_by_model
 from netrev.model.program import replay
-from netrev.recording import changes as changed_lines
-from netrev.recording import changes as recorded_changes
-from netrev.recording.changes import IncompleteChangesError, RecordedChanges
+from netrev.recording import step_changes as changed_lines
+from netrev.recording import step_changes as recorded_changes
+from netrev.recording.step_changes import IncompleteChangesError, RecordedChanges
 from netrev.system.interrupts import Interrupts, SearchInterruptedError
 from netrev.text.vocabulary import CELLS, Of
 from tests.support.examples import EXAMPLES

@@ -10,7 +10,7 @@ from netrev.machine.observer import Observer
 from netrev.model.changes import changes
 from netrev.model.program import replay
 from netrev.model.session import ModelSession, recording_of
-from netrev.recording.changes import RecordedChanges
+from netrev.recording.step_changes import RecordedChanges
 from netrev.system.interrupts import Interrupts
 
 Happens = Callable[["Modelled"], None]

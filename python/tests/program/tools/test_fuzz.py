@@ -23,7 +23,7 @@ from netrev.machine import polling
 from netrev.machine import replay as replaying
 from netrev.machine import steps
 from netrev.machine.machine import StepRefusedError
-from netrev.recording.changes import RecordedChanges
+from netrev.recording.step_changes import RecordedChanges
 from netrev.system.interrupts import Interrupts, SessionAbandonedError
 from tests.program.support.sharing import NETREV
 from tests.support.interrupted_sessions import EXAMPLE

@@ -6,7 +6,7 @@ import re
 import tempfile
 from pathlib import Path
 
-from netrev.recording.changes import RecordedChanges
+from netrev.recording.step_changes import RecordedChanges
 from tests.program.nrdb.common.support import EXAMPLES, HUNTS, nrdb, recordings, shown
 
 SEED = 20261125

@@ -7,7 +7,7 @@ from itertools import islice
 from netrev.connection.output import Row, Table, Values
 from netrev.connection.shapes import ListedMark
 from netrev.recording.cell_meanings import in_words
-from netrev.recording.changes import RecordedChanges, value_at_start
+from netrev.recording.step_changes import RecordedChanges, value_at_start
 from netrev.recording.recording import Recording
 from netrev.run.timers import timer_words, timers_beside
 from netrev.text.vocabulary import CELLS, Of
