@@ -93,6 +93,8 @@ class Search:
         scheduler.finish(self._most)
         self._steps = scheduler.steps
         run = self._run_of(scheduler)
+        if self.script.watched:
+            return run
         self._changes = undone(scheduler.state.machine)
         return replace(run, changes=self._changes)
 

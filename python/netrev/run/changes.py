@@ -94,10 +94,7 @@ class PlayedSteps(Recording):
 
     def rows(self, row_of: Callable[[list[Any]], Row], begin: int = 1, end: int | None = None) -> Iterator[Row]:
         steps = self._steps[begin - 1 : end]
-        unlike = dict.fromkeys(steps)
-        arrays = ([part.hex() if isinstance(part, bytes) else part for part in step] for step in unlike)
-        rows = dict(zip(unlike, map(row_of, arrays)))
-        yield from map(rows.__getitem__, steps)
+        return (row_of([part.hex() if isinstance(part, bytes) else part for part in step]) for step in steps)
 
 
 def changes_of(recording: Recording) -> RecordedChanges:
