@@ -25,7 +25,7 @@ class NumberedState:
     """The machine's state, and the numbers of sockets and of the uses of descriptors, with the `fdseq` of each use."""
 
     def __init__(self, limits: Limits) -> None:
-        self.machine = Machine(limits)
+        self.machine = Machine(limits, None)
         self.sockets: dict[int, int] = {}
         self.descriptors: dict[int, int] = {}
         self.fdseqs: dict[int, int] = {}

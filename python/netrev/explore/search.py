@@ -4,13 +4,14 @@ and place."""
 from bisect import bisect_left, bisect_right
 from collections import Counter
 from collections.abc import Callable, Iterator
-from dataclasses import replace
+from dataclasses import dataclass, field, replace
 from typing import Any, NamedTuple
 
 from netrev.findings.suspects.ranking import suspects_of
 from netrev.findings.suspects.rule_loader import LEFT_BEHIND, LOST_WAKE_UP, TAKEN_BACK, WRITE_AFTER_SHUT
 from netrev.findings.suspects.suspect import Suspect
 from netrev.machine.machine import Status, World
+from netrev.model.changes import undone
 from netrev.run.changes import PlayedSteps
 from netrev.text.contents import Answer, Limits, Step
 
@@ -31,7 +32,8 @@ ORDERED = (LOST_WAKE_UP, TAKEN_BACK, LEFT_BEHIND, WRITE_AFTER_SHUT)  # the rules
 Key = tuple[Any, ...]
 
 
-class Run(NamedTuple):
+@dataclass(frozen=True)
+class Run:
     """A schedule that was run, with its steps and the numbers of its objects."""
 
     steps: list[AnsweredStep]
@@ -40,6 +42,8 @@ class Run(NamedTuple):
     sockets: dict[int, int]  # the numbers of sockets, keyed by their numbers in the recording
     has_news: bool
     failed: Failed | None = None
+    # the changes of each step; None if the rules aren't asked about this run
+    changes: list[list[str]] | None = field(default=None, compare=False)
 
     def pairs(self) -> list[tuple[Step, Answer]]:
         return [(step.step, step.answer) for step in self.steps]
@@ -88,7 +92,11 @@ class Search:
             self._copy_times.append(time)
         scheduler.finish(self._most)
         self._steps = scheduler.steps
-        return self._run_of(scheduler)
+        run = self._run_of(scheduler)
+        if self.script.watched:
+            return run
+        self._changes = undone(scheduler.state.machine)
+        return replace(run, changes=self._changes)
 
     def _run_of(self, scheduler: Scheduler) -> Run:
         steps = self._steps[: scheduler.before] + scheduler.steps
@@ -157,14 +165,24 @@ class Search:
             elif scheduler.step_count() <= copy.step_count() + self.script.length and scheduler.is_identical_to(copy):
                 return self._with_the_rest(scheduler, copy)
         scheduler.finish(self._most)
-        return self._run_of(scheduler)
+        return self._with_changes(self._run_of(scheduler), scheduler, len(self._steps))
 
     def _with_the_rest(self, scheduler: Scheduler, copy: Scheduler) -> Run:
         """The result of a schedule that has reached a state of the recorded run, with the same numbers for all objects.
         The rest of its steps are the recorded ones."""
         steps = self._steps[: scheduler.before] + scheduler.steps + self._steps[copy.before :]
         recorded = self.recorded
-        return Run(steps, recorded.world, recorded.places, recorded.sockets, scheduler.has_news)
+        run = Run(steps, recorded.world, recorded.places, recorded.sockets, scheduler.has_news)
+        return self._with_changes(run, scheduler, copy.before)
+
+    def _with_changes(self, run: Run, scheduler: Scheduler, rest: int) -> Run:
+        """The run with the changes of its steps, if the rules are asked about it. This undoes the scheduler's steps. The
+        steps before them are recorded ones, and so are the steps after them, which follow the first `rest` recorded
+        steps."""
+        if self.script.watched or not self._may_differ(run):
+            return run
+        changes = self._changes[: scheduler.before] + undone(scheduler.state.machine) + self._changes[rest:]
+        return replace(run, changes=changes)
 
     # ---- the findings of a schedule
 
@@ -177,7 +195,7 @@ class Search:
         if self.script.watched:
             yield from self._failure(schedule, run)
             return
-        ranked = suspects_of(PlayedSteps(step.step for step in run.steps))
+        ranked = suspects_of(PlayedSteps((step.step for step in run.steps), run.changes))
         suspects = [suspect for suspect in ranked.suspects if self._is_finding(suspect, run)]
         for suspect in suspects:
             yield ScheduleFinding(self._key(suspect, run), suspect, -1, schedule, run)

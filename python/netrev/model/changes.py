@@ -14,7 +14,21 @@ from .step_changes import changed_cells
 
 def lines_of(machine: Machine, number: int) -> list[str]:
     """A line for each cell that the last step changed; the step has this number."""
-    return [f"{number} {cell} = {_shown(machine, cell)}" for cell in changed_cells(machine)]
+    return [f"{number} {change}" for change in _of_last_step(machine)]
+
+
+def undone(machine: Machine) -> list[list[str]]:
+    """Undoes all steps that the machine stores, and returns the changes of each of them: `lock 0 = 8`."""
+    changes: list[list[str]] = []
+    while machine.steps:
+        changes.append(_of_last_step(machine))
+        machine.undo()
+    return changes[::-1]
+
+
+def _of_last_step(machine: Machine) -> list[str]:
+    """The cells that the last step changed, with their new values."""
+    return [f"{cell} = {_shown(machine, cell)}" for cell in changed_cells(machine)]
 
 
 def _shown(machine: Machine, cell: str) -> object:

@@ -79,11 +79,14 @@ OF_BYTES = frozenset(kind for kind, row in KINDS.items() if "bytes" in row.argum
 
 
 class PlayedSteps(Recording):
-    """Steps of the model, as the rules need them."""
+    """Steps of the model, as the rules need them. The caller may know the changes of each step (`lock 0 = 8`)."""
 
-    def __init__(self, steps: Iterable[Step]) -> None:
+    def __init__(self, steps: Iterable[Step], changes: Iterable[Iterable[str]] | None = None) -> None:
         super().__init__(b"")
         self._steps = list(steps)
+        if changes is not None:
+            lines = (f"{number} {change}" for number, its in enumerate(changes, 1) for change in its)
+            self.changes = _read([*lines, f"ok {len(self._steps)} steps"])
 
     @property
     def has_answers(self) -> bool:
@@ -97,8 +100,12 @@ class PlayedSteps(Recording):
 def changes_of(recording: Recording) -> RecordedChanges:
     """The changes of a recording's steps, from netrev if it is available, else from the model."""
     if recording.changes is None:
-        recording.changes = RecordedChanges.read(["\n".join((*_lines(recording), "")).encode()])
+        recording.changes = _read(_lines(recording))
     return recording.changes
+
+
+def _read(lines: Iterable[str]) -> RecordedChanges:
+    return RecordedChanges.read(["\n".join((*lines, "")).encode()])
 
 
 def _lines(recording: Recording) -> Iterator[str]:

@@ -20,7 +20,7 @@ from netrev.findings.suspects.ranking import suspects_of
 from netrev.machine.machine import World
 from netrev.machine.steps import apply
 from netrev.recording.recording import Recording
-from netrev.run.changes import PlayedSteps
+from netrev.run.changes import PlayedSteps, changes_of
 from netrev.run.flow import OperationType
 from netrev.run.index import run_of
 from netrev.session.session import UsageError
@@ -202,6 +202,20 @@ def test_a_schedule_that_goes_on_from_a_copy_is_the_same_as_from_the_beginning()
                 assert [made.step for made in played.steps] == [made.step for made in player.steps]
             else:
                 assert player.state.machine.world().goroutines == exploring.recorded.world.goroutines
+
+
+def test_the_changes_of_a_schedule_are_those_of_its_steps() -> None:
+    compared = 0
+    for name in ("races/early-cancel", "races/http-idle", "real/hung"):
+        exploring = Search(script_at(name), lambda number: "")
+        runs = [exploring.recorded, *(exploring.run_schedule((delay,)) for delay in exploring.delays[::7])]
+        for run in runs:
+            if run and run.changes is not None:
+                steps = [made.step for made in run.steps]
+                given, made_again = (changes_of(PlayedSteps(steps, changes)) for changes in (run.changes, None))
+                assert given.pieces() == made_again.pieces()
+                compared += 1
+    assert compared > 10
 
 
 def test_a_step_that_cannot_be_is_no_schedule() -> None:
