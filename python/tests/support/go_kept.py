@@ -5,20 +5,21 @@ import os
 import pathlib
 import shutil
 import subprocess
-from contextlib import ExitStack
 
 import pytest
 
 from netrev_go.go_command.running import logs_in
 from netrev_go.log.logfile import read_log
 
-from .go_tool import ENDS, Tool, program
+from .go_programs import ENDS, Tool, program
 
+# waits for a byte, which comes, and then becomes itself with another argument
 BECOMES = program(
     '\tif len(os.Args) == 1 {\n\t\ta.Write([]byte("x"))\n\t\tb.Read(make([]byte, 1))\n'
     '\t\tpanic(syscall.Exec(os.Args[0], []string{os.Args[0], "again"}, os.Environ()))\n\t}',
     "os", "syscall",
 )  # fmt: skip
+# prints the descriptors of a program that it starts
 INHERITS = program(
     '\tout, err := exec.Command("ls", "-l", "/proc/self/fd").CombinedOutput()\n\tfmt.Print(string(out), err)',
     "fmt", "os/exec",
@@ -33,8 +34,8 @@ LOCKS = program(
 	handed := make(chan *sync.Mutex, 100)
 	unlocking.Add(1)
 	go func() {
-		for one := range handed {
-			one.Unlock()
+		for mutex := range handed {
+			mutex.Unlock()
 		}
 		unlocking.Done()
 	}()
@@ -52,12 +53,12 @@ LOCKS = program(
 				for j := range own {
 					own[j].Unlock()
 				}
-				one, first, second := &shared[(i+n)%40], &reading[(i+n)%20], &reading[(i+n+1)%20]
-				one.Lock()
+				mutex, first, second := &shared[(i+n)%40], &reading[(i+n)%20], &reading[(i+n+1)%20]
+				mutex.Lock()
 				if n%7 == 0 {
-					handed <- one
+					handed <- mutex
 				} else {
-					one.Unlock()
+					mutex.Unlock()
 				}
 				first.RLock()
 				second.RLock()
@@ -84,16 +85,12 @@ LOCKS = program(
 """,
     "fmt", "os", "runtime", "sync", "unsafe",
 )  # fmt: skip
+# makes many points
 MANY = program("\tfor i := 0; i < 5000; i++ {\n\t\ta.SetDeadline(time.Now().Add(time.Hour))\n\t}", "time")
 
 
-@pytest.fixture
-def tool(folder: pathlib.Path, cleanups: ExitStack) -> Tool:
-    return Tool(folder, cleanups)
-
-
-def mounted(tool: Tool, size: str) -> pathlib.Path:
-    """A mounted file system of this size."""
+def mount(tool: Tool, size: str) -> pathlib.Path:
+    """Mounts a file system of this size in the tool's folder, until the test ends, and returns its folder."""
     small = tool.folder / "small"
     small.mkdir()
     if os.geteuid() or os.system(f"mount -t tmpfs -o size={size} none {small} 2>/dev/null"):
@@ -103,17 +100,17 @@ def mounted(tool: Tool, size: str) -> pathlib.Path:
 
 
 def test_a_program_that_becomes_another_one_is_recorded_on(tool: Tool) -> None:
-    tool.written(BECOMES)
-    status, output = tool.called("-o", "x", "run", "main.go")
+    tool.write(BECOMES)
+    status, output = tool.call("-o", "x", "run", "main.go")
     assert status == 0, output
-    tool.recorded(output, "x")
-    tool.recorded(output, "x-2")
+    tool.check_recording(output, "x")
+    tool.check_recording(output, "x-2")
     assert "nothing is recorded" not in output
 
 
 def test_a_log_that_cannot_be_made_changes_nothing_of_the_program(tool: Tool) -> None:
-    tool.written(ENDS)
-    assert tool.called("build", "-o", "prog", "main.go")[0] == 0
+    tool.write(ENDS)
+    assert tool.call("build", "-o", "prog", "main.go")[0] == 0
     for folder in ("nowhere", "main.go"):
         settings = tool.environment(NETREV_LOG=f"{folder}/log")
         ended = subprocess.run(["./prog"], cwd=tool.folder, env=settings, capture_output=True, check=True)
@@ -121,25 +118,25 @@ def test_a_log_that_cannot_be_made_changes_nothing_of_the_program(tool: Tool) ->
 
 
 def test_no_program_that_it_starts_has_the_log_open(tool: Tool) -> None:
-    tool.written(INHERITS)
-    _, output = tool.called("run", "main.go")
-    tool.recorded(output)
+    tool.write(INHERITS)
+    _, output = tool.call("run", "main.go")
+    tool.check_recording(output)
     assert "/proc/" in output
     assert "netrev-go-" not in output
 
 
-def test_a_status_of_gos_is_told(tool: Tool) -> None:
-    tool.written(ENDS.replace("_, _ = a, b", "_, _ = a, b\n\tpanic(1)"))
-    status, output = tool.called("run", "main.go")
+def test_it_ends_with_gos_own_status(tool: Tool) -> None:
+    tool.write(ENDS.replace("_, _ = a, b", "_, _ = a, b\n\tpanic(1)"))
+    status, output = tool.call("run", "main.go")
     assert status == 1, output
-    tool.recorded(output)
+    tool.check_recording(output)
     assert "recording.jsonl -ex continue -ex 'info errors'" in output
     assert "--explore" not in output
 
 
 def test_the_log_has_just_the_mutexes_that_are_locked_in_the_end(tool: Tool) -> None:
-    tool.written(LOCKS)
-    assert tool.called("build", "-o", "prog", "main.go")[0] == 0
+    tool.write(LOCKS)
+    assert tool.call("build", "-o", "prog", "main.go")[0] == 0
     for turn in range(3):
         settings = tool.environment(NETREV_LOG=str(tool.folder / f"log-{turn}"))
         run = subprocess.run(["./prog"], cwd=tool.folder, env=settings, capture_output=True, text=True, check=True)
@@ -151,9 +148,9 @@ def test_the_log_has_just_the_mutexes_that_are_locked_in_the_end(tool: Tool) -> 
 
 
 def test_a_log_without_room_ends_and_the_program_goes_on(tool: Tool) -> None:
-    tool.written(MANY.replace("5000", "100000"))
-    assert tool.called("build", "-o", "prog", "main.go")[0] == 0
-    small = mounted(tool, "10m")
+    tool.write(MANY.replace("5000", "100000"))
+    assert tool.call("build", "-o", "prog", "main.go")[0] == 0
+    small = mount(tool, "10m")
     settings = tool.environment(NETREV_LOG=f"{small}/log")
     ended = subprocess.run(["./prog"], cwd=tool.folder, env=settings, capture_output=True, check=True)
     assert (ended.stdout, ended.stderr) == (b"", b"")
@@ -165,11 +162,11 @@ def test_a_log_without_room_ends_and_the_program_goes_on(tool: Tool) -> None:
 
 
 def test_a_full_disk_keeps_the_logs(tool: Tool) -> None:
-    mounted(tool, "128k")
-    tool.written(MANY)
-    status, output = tool.called("-o", "small/x", "--keep", "--strict", "run", "main.go")
+    mount(tool, "128k")
+    tool.write(MANY)
+    status, output = tool.call("-o", "small/x", "--keep", "--strict", "run", "main.go")
     assert status == 5, output
     assert "netrev-go: small/x.jsonl: No space left on device" in output
     logs = output.rpartition("convert ")[2].partition("`")[0]
     tool.cleanups.callback(shutil.rmtree, os.path.dirname(logs))
-    assert tool.called("-o", "again", "convert", logs)[0] == 0
+    assert tool.call("-o", "again", "convert", logs)[0] == 0

@@ -6,16 +6,20 @@ import os
 import pathlib
 import shutil
 import subprocess
+import tempfile
 from collections.abc import Iterator
 
 import pytest
 
 from dev.recorder.fetching import commands_of
+from netrev.system.program_path import netrev_program
 
-from .go_tool import ENDS, TOOL, netrev_program
+from .go_programs import ENDS, TOOL
+
+pytestmark = pytest.mark.together  # they share the copy
 
 POLL, MUTEX, SOCKETS = "runtime/netpoll.go", "internal/poll/fd_mutex.go", "internal/poll/fd_unix.go"
-Change = tuple[str, dict[str, str]]
+Change = tuple[str, dict[str, str]]  # a file, and the texts to replace in it
 
 CHECKED = """		errcode = netpollcheckerr(pd, int32(mode))
 		if errcode != pollNoError {
@@ -100,17 +104,17 @@ class Planted:
 
     def __init__(self, folder: pathlib.Path) -> None:
         self.folder, self.root = folder, folder / "go"
-        theirs = commands_of("1.27").parent
+        original = commands_of("1.27").parent
         without = shutil.ignore_patterns("testdata", "*_test.go", "cmd")
-        shutil.copytree(theirs / "src", self.root / "src", ignore=without)
-        for path in theirs.iterdir():
+        shutil.copytree(original / "src", self.root / "src", ignore=without)
+        for path in original.iterdir():
             if path.name != "src":
                 (self.root / path.name).symlink_to(path.resolve())
         (self.folder / "main.go").write_text(ENDS)
 
     @contextlib.contextmanager
     def planted(self, changes: list[Change]) -> Iterator[None]:
-        """Replaces texts in some files."""
+        """Replaces texts in some files of the copy, and puts the files back afterwards."""
         before = {name: (self.root / "src" / name).read_text() for name, _ in changes}
         try:
             for name, words in changes:
@@ -123,7 +127,8 @@ class Planted:
             for name, text in before.items():
                 (self.root / "src" / name).write_text(text)
 
-    def called(self, *words: str) -> tuple[int, str]:
+    def call(self, *words: str) -> tuple[int, str]:
+        """Calls netrev-go with the copy, and returns its status, and its output with that of the program."""
         settings = {
             "PATH": f"{self.root / 'bin'}:{os.environ['PATH']}", "GOROOT": str(self.root), "NETREV": netrev_program() or "",
             "GO111MODULE": "off", "GOFLAGS": "", "GOTOOLCHAIN": "local", "XDG_CACHE_HOME": str(self.folder / "cache"),
@@ -137,28 +142,32 @@ class Planted:
 
 
 @pytest.fixture(scope="module")
-def release(tmp_path_factory: pytest.TempPathFactory) -> Planted:
-    return Planted(tmp_path_factory.mktemp("planted"))
+def release() -> Iterator[Planted]:
+    """A copy of Go 1.27 for all tests of the module, which is removed after them."""
+    with tempfile.TemporaryDirectory(prefix="netrev-planted-") as name:
+        yield Planted(pathlib.Path(name))
 
 
 def test_the_copy_is_recorded_as_it_is(release: Planted) -> None:
-    status, output = release.called("doctor")
+    status, output = release.call("doctor")
     assert status == 0, output
-    status, output = release.called("-o", "whole", "run", "main.go")
+    status, output = release.call("-o", "whole", "run", "main.go")
     assert status == 0, output
     assert (release.folder / "whole.jsonl").exists()
 
 
-def test_each_planted_change_is_named_and_nothing_is_recorded(release: Planted) -> None:
-    for name, (changes, reports) in PLANTED.items():
-        with release.planted(changes):
-            status, output = release.called("doctor")
-            assert status == 1, output
-            assert reports in output, name
-            status, output = release.called("-o", "planted", "run", "main.go")
-            assert status == 4, output
-            assert "netrev-go: go1.27.3 can't be recorded " in output, name
-            assert list(release.folder.glob("planted*")) == [], name
+@pytest.mark.parametrize("changes, message", PLANTED.values(), ids=PLANTED)
+def test_each_planted_change_is_named_and_nothing_is_recorded(
+    release: Planted, changes: list[Change], message: str
+) -> None:
+    with release.planted(changes):
+        status, output = release.call("doctor")
+        assert status == 1, output
+        assert message in output
+        status, output = release.call("-o", "planted", "run", "main.go")
+        assert status == 4, output
+        assert "netrev-go: go1.27.3 can't be recorded " in output
+        assert list(release.folder.glob("planted*")) == []
 
 
 def test_what_can_be_done_without_is_left_out_and_named(release: Planted) -> None:
@@ -167,13 +176,13 @@ def test_what_can_be_done_without_is_left_out_and_named(release: Planted) -> Non
     without = f"without what SendFile writes: {file} sendFile: sendFileChunk(dst, src, ...) occurs there 0 times, not 1"
     elsewhere = f"without the bytes that go there: {file} sendFilePart: syscall.Send..) occurs there too"
     with release.planted(changes):
-        status, output = release.called("-o", "partly", "run", "main.go")
+        status, output = release.call("-o", "partly", "run", "main.go")
         assert status == 0, output
         assert without in output
         assert elsewhere in output
         assert (release.folder / "partly.jsonl").exists()
-        assert without not in release.called("-o", "partly", "run", "main.go")[1]
-        status, output = release.called("doctor")
+        assert without not in release.call("-o", "partly", "run", "main.go")[1]
+        status, output = release.call("doctor")
         assert status == 0, output
         assert f"  {without}\n" in output
 
@@ -188,6 +197,6 @@ def test_without_the_objects_of_waits_all_else_is_recorded(release: Planted) -> 
         "0 times, not 1"
     )
     with release.planted(changes):
-        status, output = release.called("doctor")
+        status, output = release.call("doctor")
         assert status == 0, output
         assert f"  {without}\n" in output

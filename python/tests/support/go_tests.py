@@ -11,7 +11,7 @@ from pathlib import Path
 
 import pytest
 
-from .go_tool import PAIR, TOOL, Tool
+from .go_programs import PAIR, TOOL, Tool
 
 HEAD = 'package p\n\nimport (\n\t"fmt"\n\t"net"\n\t"os"\n\t"testing"\n\t"time"\n)\n' + PAIR
 WAITS = "b.SetReadDeadline(time.Now().Add(10 * time.Millisecond))"
@@ -104,21 +104,22 @@ class Tested(Tool):
 
     def __init__(self, folder: Path, cleanups: ExitStack) -> None:
         super().__init__(folder, cleanups)
-        self.written(TESTS, "p_test.go")
-        self.written("module example.org/p\n\ngo 1.19\n", "go.mod")
+        self.write(TESTS, "p_test.go")
+        self.write("module example.org/p\n\ngo 1.19\n", "go.mod")
 
     def environment(self, **settings: str) -> dict[str, str]:
         return super().environment() | {"GO111MODULE": "on"} | settings
 
-    def made(self, folder: str = "recordings") -> list[str]:
+    def recordings(self, folder: str = "recordings") -> list[str]:
+        """The names of the recordings in a folder."""
         return sorted(path.name for path in (self.folder / folder).glob("*.jsonl"))
 
-    def same(self, *words: str) -> int:
+    def common_status(self, *words: str) -> int:
         """Checks that Go and netrev-go end with the same exit status, and returns it."""
         plainly = subprocess.run(
             ["go", "test", *words], cwd=self.folder, env=self.environment(), capture_output=True, check=False
         )
-        assert self.called("test", *words)[0] == plainly.returncode
+        assert self.call("test", *words)[0] == plainly.returncode
         return plainly.returncode
 
 
@@ -128,10 +129,10 @@ def package(folder: Path, cleanups: ExitStack) -> Tested:
 
 
 def test_of_those_that_fail_there_are_recordings(package: Tested) -> None:
-    status, output = package.called("--json", "a.json", "test", ".")
-    assert (status, package.made()) == (1, ["p.TestParts.part_1.jsonl", "p.TestRed.jsonl"]), output
+    status, output = package.call("--json", "a.json", "test", ".")
+    assert (status, package.recordings()) == (1, ["p.TestParts.part_1.jsonl", "p.TestRed.jsonl"]), output
     for name in ("TestRed", r"TestParts\.part_1"):
-        package.recorded(output, rf"recordings/p\.{name}")
+        package.check_recording(output, rf"recordings/p\.{name}")
     reports = {line["test"]: line for line in map(json.loads, (package.folder / "a.json").read_text().splitlines())}
     assert reports["TestGood"]["status"] == "passed"
     line = TESTS[: TESTS.index("t.Error(")].count("\n") + 1
@@ -142,8 +143,8 @@ def test_of_those_that_fail_there_are_recordings(package: Tested) -> None:
 @pytest.mark.parametrize("how", ["panic", "elsewhere", "exit", "hang"])
 def test_however_it_ends_the_test_that_ran_is_kept(package: Tested, how: str) -> None:
     words = ("test", "-run", "Good|Ends", "-timeout", "2s", ".")
-    status, output = package.called("-o", how, *words, HOW=how)
-    assert (status, package.made(how)) == (1, ["p.TestEnds.jsonl"]), output
+    status, output = package.call("-o", how, *words, HOW=how)
+    assert (status, package.recordings(how)) == (1, ["p.TestEnds.jsonl"]), output
 
 
 def test_the_status_is_gos(package: Tested) -> None:
@@ -153,11 +154,11 @@ def test_the_status_is_gos(package: Tested) -> None:
         ("-list", ".", "."),
         ("-race", "-run", "Good", "-count=2", "-v", "."),
     ):
-        assert package.same(*words) == 0, words
+        assert package.common_status(*words) == 0, words
     for words in (("-run", "Red", "."), ("./nowhere",), ("-nonsense", ".")):
-        assert package.same(*words) != 0, words
-    package.written("package p\n\nfunc f() { return 1 }\n", "other.go")
-    assert package.same(".") != 0
+        assert package.common_status(*words) != 0, words
+    package.write("package p\n\nfunc f() { return 1 }\n", "other.go")
+    assert package.common_status(".") != 0
 
 
 def test_the_script_for_any_ci(package: Tested) -> None:
@@ -167,7 +168,7 @@ def test_the_script_for_any_ci(package: Tested) -> None:
         words, cwd=package.folder, env=package.environment(PATH=path), capture_output=True, text=True, check=False
     )
     assert run.returncode == 1, run.stderr
-    assert package.made("out/netrev") == ["p.TestRed.jsonl"]
+    assert package.recordings("out/netrev") == ["p.TestRed.jsonl"]
     assert (package.folder / "out/netrev/tests.xml").exists()
 
 
@@ -186,12 +187,12 @@ def test_json_stays_json(package: Tested) -> None:
 
 
 def test_runs_that_are_the_same_are_linked_once_and_print_what_go_prints(package: Tested) -> None:
-    package.written(LOOKS, "look_test.go")
+    package.write(LOOKS, "look_test.go")
     for more in ((), ("-race",)):
         words = ("test", *more, "-v", "-run", "Good|Looks", ".")
-        plainly = timeless(package.called(*words)[1])
+        plainly = timeless(package.call(*words)[1])
         (package.folder / "seen").unlink(missing_ok=True)
-        status, output = package.called("--runs", "3", *words)
+        status, output = package.call("--runs", "3", *words)
         assert status == 0, output
         assert timeless(output) == plainly * 3 + ["netrev-go: 2 tests, 3 runs; 0 failed"]
         seen = (package.folder / "seen").read_text().splitlines()
@@ -213,4 +214,4 @@ def test_cancelled_it_ends_as_go_does(package: Tested, number: signal.Signals, s
     output, _ = process.communicate(timeout=120)
     here.unlink()
     assert process.returncode == status, output
-    assert package.made(number.name) == ["p.TestEnds.jsonl"], output
+    assert package.recordings(number.name) == ["p.TestEnds.jsonl"], output

@@ -10,15 +10,12 @@ import subprocess
 import sys
 import time
 from collections.abc import Callable
-from contextlib import ExitStack
 from pathlib import Path
-from typing import Any
 
 import pytest
 
 from dev.recorder.fetching import here
 from netrev.recording.where import SourceLines
-from netrev.system.program_path import netrev_program
 from netrev_go.go_command import calls_of_go
 from netrev_go.go_command.toolchain import (
     CHANGED,
@@ -32,30 +29,7 @@ from netrev_go.go_command.toolchain import (
 )
 from netrev_go.log.logfile import Header
 
-ROOT = Path(__file__).resolve().parents[3]
-SAMPLES = ROOT / "tools/go/samples"
-TOOL = ROOT / "tools/go/netrev-go"
-
-PAIR = """
-func pair() (net.Conn, net.Conn) {
-	l, err := net.Listen("tcp", "127.0.0.1:0")
-	if err != nil {
-		panic(err)
-	}
-	a, err := net.Dial("tcp", l.Addr().String())
-	if err != nil {
-		panic(err)
-	}
-	b, _ := l.Accept()
-	return a, b
-}
-"""
-
-
-def program(body: str, *imports: str) -> str:
-    """A program whose main has this body."""
-    names = "".join(f'\t"{name}"\n' for name in sorted({"net", *imports}))
-    return f"package main\n\nimport (\n{names})\n{PAIR}\nfunc main() {{\n\ta, b := pair()\n{body}\n\t_, _ = a, b\n}}\n"
+from .go_programs import ENDS, TOOL, Tool, program
 
 
 def begin_of_ring(text: bytes) -> int:
@@ -63,11 +37,12 @@ def begin_of_ring(text: bytes) -> int:
     return Header(text).ring
 
 
+# waits for a byte that nobody sends
 HANGS = program("\tb.Read(make([]byte, 1))")
 READ_LINE = HANGS[: HANGS.index("b.Read")].count("\n") + 1
-ENDS = program('\ta.Write([]byte("x"))\n\tb.Read(make([]byte, 1))')
 TEST = HANGS.replace("package main", "package p").replace('"net"', '"net"\n\t"testing"')
 TEST = TEST.replace("func main()", "func TestHang(t *testing.T)")
+# starts itself as a child, which also opens a socket
 CHILD = program(
     '\tif len(os.Args) == 1 {\n\t\texec.Command(os.Args[0], "child").Run()\n\t}', "os", "os/exec"
 )  # fmt: skip
@@ -77,9 +52,11 @@ BECOMES = program(
     '\tsyscall.Exec("/proc/self/exe", []string{"again", "again"}, os.Environ())',
     "os", "syscall",
 )  # fmt: skip
+# waits in a generic function
 GENERIC = HANGS.replace("b.Read(make([]byte, 1))", "wait(b)").replace(
     "func main()", "func wait[T net.Conn](end T) {\n\tend.Read(make([]byte, 1))\n}\n\nfunc main()"
 )
+# four goroutines write to one socket
 RACING = program(
     "\tvar done sync.WaitGroup\n\tfor i := 0; i < 4; i++ {\n\t\tdone.Add(1)\n\t\tgo func() {\n\t\t\tdefer done.Done()\n"
     '\t\t\tfor j := 0; j < 50; j++ {\n\t\t\t\tv := net.Buffers{[]byte("a"), []byte("b")}\n\t\t\t\tv.WriteTo(a)\n\t\t\t}\n'
@@ -88,7 +65,8 @@ RACING = program(
 )
 
 
-# a goroutine reads in each of these ways and prints the result; then its socket is closed
+# ways in which a goroutine that has read something tells main, which then closes the socket: main's declaration, what the
+# goroutine does after the read, how main awaits it, and the imports of all that
 TELLS = (
     ("done := make(chan int)", "done <- 1", "<-done", ()),
     ("done := make(chan int, 1)", "done <- 1", "time.Sleep(5e6); <-done", ("time",)),
@@ -99,41 +77,11 @@ TELLS = (
 )
 
 
-class Tool:
-    """A folder with a program, and netrev-go called in it."""
-
-    def __init__(self, folder: Path, cleanups: ExitStack) -> None:
-        self.folder, self.cleanups = folder, cleanups
-
-    def written(self, text: str, name: str = "main.go") -> None:
-        (self.folder / name).write_text(text)
-
-    def environment(self, **settings: str) -> dict[str, str]:
-        return os.environ | {"NETREV": netrev_program() or "", "GO111MODULE": "off", "GOFLAGS": ""} | settings
-
-    def called(self, *words: str, **settings: str) -> tuple[int, str]:
-        """netrev-go's status, and the output of netrev-go and of the program."""
-        run = subprocess.run(
-            [TOOL, *words], cwd=self.folder, env=self.environment(**settings), stdin=subprocess.DEVNULL,
-            stdout=subprocess.PIPE, stderr=subprocess.STDOUT, text=True, errors="replace", timeout=300, check=False,
-        )  # fmt: skip
-        return run.returncode, run.stdout
-
-    def recorded(self, output: str, name: str = "recording") -> None:
-        """Checks that the output names a recording."""
-        assert re.search(rf"{name}\.jsonl: ok \d+ steps; \d+ goroutines?, \d+ sockets?", output)
-
-
-@pytest.fixture
-def tool(folder: Path, cleanups: ExitStack) -> Tool:
-    return Tool(folder, cleanups)
-
-
 def test_a_program_that_hangs_ends_with_its_line(tool: Tool) -> None:
-    tool.written(HANGS)
-    status, output = tool.called("-n", "1", "run", "main.go")
+    tool.write(HANGS)
+    status, output = tool.call("-n", "1", "run", "main.go")
     assert status == 1, output  # Go's own status: SIGQUIT ended the program
-    tool.recorded(output)
+    tool.check_recording(output)
     assert re.search(
         rf"  main\.go:{READ_LINE}: net\.\(\*conn\)\.Read waits to read \(goroutine 0, since step \d+\)", output
     )
@@ -141,87 +89,87 @@ def test_a_program_that_hangs_ends_with_its_line(tool: Tool) -> None:
 
 
 def test_a_test_that_hangs_ends_with_its_line(tool: Tool) -> None:
-    tool.written(TEST, "p_test.go")
-    status, output = tool.called("-o", "t", "test", ".", "-run", "Hang", "-timeout", "1s")
+    tool.write(TEST, "p_test.go")
+    status, output = tool.call("-o", "t", "test", ".", "-run", "Hang", "-timeout", "1s")
     assert status == 1
-    tool.recorded(output, r"t/\S+\.TestHang")
+    tool.check_recording(output, r"t/\S+\.TestHang")
     assert re.search(rf"  p_test\.go:{READ_LINE + 1}: net\.\(\*conn\)\.Read waits to read", output)
     assert "vet:" not in output
 
 
-def test_lines_are_told_however_it_was_built(tool: Tool) -> None:
-    tool.written(HANGS)
-    for flag in (["-ldflags=-s -w"], ["-trimpath"], ["-race"], ["-gcflags=-N"]):
-        _, output = tool.called("-n", "1", "run", *flag, "main.go")
-        tool.recorded(output)
-        assert re.search(rf"main\.go:{READ_LINE}: ", output), flag
+@pytest.mark.parametrize("flag", ["-ldflags=-s -w", "-trimpath", "-race", "-gcflags=-N"])
+def test_it_prints_lines_however_the_program_was_built(tool: Tool, flag: str) -> None:
+    tool.write(HANGS)
+    _, output = tool.call("-n", "1", "run", flag, "main.go")
+    tool.check_recording(output)
+    assert re.search(rf"main\.go:{READ_LINE}: ", output)
 
 
 def test_a_program_that_may_lie_anywhere(tool: Tool) -> None:
-    tool.written(HANGS)
-    _, output = tool.called("-n", "1", "run", "-buildmode=pie", "main.go")
-    tool.recorded(output)
+    tool.write(HANGS)
+    _, output = tool.call("-n", "1", "run", "-buildmode=pie", "main.go")
+    tool.check_recording(output)
     release, _ = release_of(find_go().version)
     assert ("Go reads no lines of it (-buildmode=pie)" if release == "1.19" else f"main.go:{READ_LINE}: ") in output
 
 
 def test_a_generic_function(tool: Tool) -> None:
-    tool.written(GENERIC)
-    _, output = tool.called("-n", "1", "run", "main.go")
-    tool.recorded(output)
+    tool.write(GENERIC)
+    _, output = tool.call("-n", "1", "run", "main.go")
+    tool.check_recording(output)
     assert f"main.go:{GENERIC[: GENERIC.index('end.Read')].count(chr(10)) + 1}: " in output
 
 
 def test_a_workspace(tool: Tool) -> None:
     for name in ("mine", "dep"):
         (tool.folder / name).mkdir()
-        tool.written(f"module example.org/{name}\n\ngo 1.18\n", f"{name}/go.mod")
-    tool.written("go 1.18\n\nuse (\n\t./mine\n\t./dep\n)\n", "go.work")
-    tool.written("package dep\n", "dep/dep.go")
-    tool.written(HANGS.replace('"net"\n', '"net"\n\t_ "example.org/dep"\n'), "mine/main.go")
-    _, output = tool.called("-n", "1", "run", "./mine", GO111MODULE="on")
-    tool.recorded(output)
+        tool.write(f"module example.org/{name}\n\ngo 1.18\n", f"{name}/go.mod")
+    tool.write("go 1.18\n\nuse (\n\t./mine\n\t./dep\n)\n", "go.work")
+    tool.write("package dep\n", "dep/dep.go")
+    tool.write(HANGS.replace('"net"\n', '"net"\n\t_ "example.org/dep"\n'), "mine/main.go")
+    _, output = tool.call("-n", "1", "run", "./mine", GO111MODULE="on")
+    tool.check_recording(output)
     assert f"mine/main.go:{READ_LINE + 1}: " in output
 
 
 def test_a_release_that_a_module_asks_for(tool: Tool) -> None:
-    request, other = here("1.27"), next(filter(None, map(here, ("1.26", "1.24", "1.23", "1.22", "1.21"))), None)
-    if not request or not other:
+    wanted, other = here("1.27"), next(filter(None, map(here, ("1.26", "1.24", "1.23", "1.22", "1.21"))), None)
+    if not wanted or not other:
         pytest.skip("neither 1.27 nor another release that looks into go.mod is here")
     tools = tool.folder / "tools"
     tools.mkdir()
-    (tools / "go1.27.3").symlink_to(request / "go")
-    tool.written("module example.org/mine\n\ngo 1.21\n\ntoolchain go1.27.3\n", "go.mod")
-    tool.written(HANGS)
+    (tools / "go1.27.3").symlink_to(wanted / "go")
+    tool.write("module example.org/mine\n\ngo 1.21\n\ntoolchain go1.27.3\n", "go.mod")
+    tool.write(HANGS)
     settings = {"PATH": f"{other}:{tools}:{os.environ['PATH']}", "GOTOOLCHAIN": "auto", "GO111MODULE": "on"}
-    assert "Go: go1.27.3, " in tool.called("doctor", **settings)[1]
-    _, output = tool.called("-n", "1", "run", ".", **settings)
-    tool.recorded(output)
+    assert "Go: go1.27.3, " in tool.call("doctor", **settings)[1]
+    _, output = tool.call("-n", "1", "run", ".", **settings)
+    tool.check_recording(output)
     assert f"main.go:{READ_LINE}: " in output
 
 
 def test_a_cgo_program(tool: Tool) -> None:
-    tool.written(HANGS.replace("import (\n", '// int one(void) { return 1; }\nimport "C"\n\nimport (\n'))
-    _, output = tool.called("-n", "1", "run", "main.go")
-    tool.recorded(output)
+    tool.write(HANGS.replace("import (\n", '// int one(void) { return 1; }\nimport "C"\n\nimport (\n'))
+    _, output = tool.call("-n", "1", "run", "main.go")
+    tool.check_recording(output)
     assert f"main.go:{READ_LINE + 3}: " in output
 
 
 def test_a_vendored_module(tool: Tool) -> None:
-    tool.written(HANGS.replace('"net"\n', '"net"\n\t_ "example.org/dep"\n'))
-    tool.written("module example.org/mine\n\ngo 1.19\n\nrequire example.org/dep v1.0.0\n", "go.mod")
+    tool.write(HANGS.replace('"net"\n', '"net"\n\t_ "example.org/dep"\n'))
+    tool.write("module example.org/mine\n\ngo 1.19\n\nrequire example.org/dep v1.0.0\n", "go.mod")
     (tool.folder / "vendor/example.org/dep").mkdir(parents=True)
-    tool.written("package dep\n", "vendor/example.org/dep/dep.go")
-    tool.written("# example.org/dep v1.0.0\n## explicit; go 1.19\nexample.org/dep\n", "vendor/modules.txt")
-    _, output = tool.called("-n", "1", "run", ".", GO111MODULE="on")
-    tool.recorded(output)
+    tool.write("package dep\n", "vendor/example.org/dep/dep.go")
+    tool.write("# example.org/dep v1.0.0\n## explicit; go 1.19\nexample.org/dep\n", "vendor/modules.txt")
+    _, output = tool.call("-n", "1", "run", ".", GO111MODULE="on")
+    tool.check_recording(output)
     assert f"main.go:{READ_LINE + 1}: " in output
 
 
 def test_the_race_detector_sees_no_race_of_ours(tool: Tool) -> None:
-    tool.written(RACING)
-    _, output = tool.called("run", "-race", "main.go")
-    tool.recorded(output)
+    tool.write(RACING)
+    _, output = tool.call("run", "-race", "main.go")
+    tool.check_recording(output)
     assert "DATA RACE" not in output
 
 
@@ -234,24 +182,24 @@ def test_the_race_detector_sees_no_race_of_ours(tool: Tool) -> None:
         ("\tselect {}", ()),
     ],
 )
-def test_whatever_way_it_ends(tool: Tool, body: str, imports: tuple[Any, ...]) -> None:
-    tool.written(program(body, *imports))
-    _, output = tool.called("-n", "2", "run", "main.go")
-    tool.recorded(output)
+def test_whatever_way_it_ends(tool: Tool, body: str, imports: tuple[str, ...]) -> None:
+    tool.write(program(body, *imports))
+    _, output = tool.call("-n", "2", "run", "main.go")
+    tool.check_recording(output)
 
 
 def test_children_have_recordings_of_their_own(tool: Tool) -> None:
-    tool.written(CHILD)
-    _, output = tool.called("-o", "c", "run", "main.go")
-    tool.recorded(output, "c")
-    tool.recorded(output, "c-2")
+    tool.write(CHILD)
+    _, output = tool.call("-o", "c", "run", "main.go")
+    tool.check_recording(output, "c")
+    tool.check_recording(output, "c-2")
 
 
 def test_a_program_that_becomes_another_has_two_recordings(tool: Tool) -> None:
-    tool.written(BECOMES)
-    _, output = tool.called("-o", "b", "run", "main.go")
-    tool.recorded(output, "b")
-    tool.recorded(output, "b-2")
+    tool.write(BECOMES)
+    _, output = tool.call("-o", "b", "run", "main.go")
+    tool.check_recording(output, "b")
+    tool.check_recording(output, "b-2")
 
 
 def lines_of(tool: Tool, name: str) -> tuple[list[list[object]], SourceLines]:
@@ -262,12 +210,12 @@ def lines_of(tool: Tool, name: str) -> tuple[list[list[object]], SourceLines]:
 
 @pytest.mark.parametrize("statement, tells, awaits, imports", TELLS)
 def test_what_the_program_orders_is_recorded(
-    tool: Tool, statement: str, tells: str, awaits: str, imports: tuple[Any, ...]
+    tool: Tool, statement: str, tells: str, awaits: str, imports: tuple[str, ...]
 ) -> None:
     reads = f"\t{statement}\n\tgo func() {{ b.Read(make([]byte, 1)); {tells} }}()"
-    tool.written(program(f'{reads}\n\ta.Write([]byte("x"))\n\t{awaits}\n\tb.Close()', *imports))
-    _, output = tool.called("run", "main.go")
-    tool.recorded(output)
+    tool.write(program(f'{reads}\n\ta.Write([]byte("x"))\n\t{awaits}\n\tb.Close()', *imports))
+    _, output = tool.call("run", "main.go")
+    tool.check_recording(output)
     steps, lines = lines_of(tool, "recording")
     read = max(at for at, step in enumerate(steps, 1) if step[0] == "rwunlock" and step[3] == "r" and step[1])
     closes = max(at for at, step in enumerate(steps, 1) if step[0] == "increfclose")
@@ -275,23 +223,24 @@ def test_what_the_program_orders_is_recorded(
 
 
 def test_a_machines_own_wake_up_is_no_order(tool: Tool) -> None:
-    tool.written(program("\tgo b.Read(make([]byte, 1))\n\ttime.Sleep(5e6)\n\tb.Close()\n\ttime.Sleep(5e6)", "time"))
-    _, output = tool.called("run", "main.go")
-    tool.recorded(output)
+    tool.write(program("\tgo b.Read(make([]byte, 1))\n\ttime.Sleep(5e6)\n\tb.Close()\n\ttime.Sleep(5e6)", "time"))
+    _, output = tool.call("run", "main.go")
+    tool.check_recording(output)
     steps, lines = lines_of(tool, "recording")
     evicts = max(at for at, step in enumerate(steps, 1) if step[0] == "evict")
     assert [pair for pair in lines.orders or [] if pair[0] == evicts] == []
     assert "waitcheck" in [step[0] for step in steps[evicts:]]
 
 
-def test_they_can_be_left_out(tool: Tool) -> None:
-    tool.written(ENDS)
-    _, output = tool.called("--no-orders", "run", "main.go")
-    tool.recorded(output)
+def test_orders_can_be_left_out(tool: Tool) -> None:
+    tool.write(ENDS)
+    _, output = tool.call("--no-orders", "run", "main.go")
+    tool.check_recording(output)
     assert lines_of(tool, "recording")[1].orders is None
 
 
 def start(tool: Tool, *words: str, **settings: str) -> subprocess.Popen[str]:
+    """Starts a command in the tool's folder; after the test it is killed."""
     process = subprocess.Popen(
         words, cwd=tool.folder, env=tool.environment(**settings), text=True, stdin=subprocess.DEVNULL,
         stdout=subprocess.PIPE, stderr=subprocess.STDOUT,
@@ -301,7 +250,8 @@ def start(tool: Tool, *words: str, **settings: str) -> subprocess.Popen[str]:
     return process
 
 
-def waited(is_so: Callable[[], bool], seconds: int = 10) -> bool:
+def happens(is_so: Callable[[], bool], seconds: int = 10) -> bool:
+    """Whether a condition holds within this time."""
     for _ in range(10 * seconds):
         if is_so():
             return True
@@ -310,36 +260,36 @@ def waited(is_so: Callable[[], bool], seconds: int = 10) -> bool:
 
 
 def test_a_process_that_runs_on(tool: Tool) -> None:
-    tool.written(HANGS)
-    assert tool.called("build", "-o", "prog", "main.go")[0] == 0
+    tool.write(HANGS)
+    assert tool.call("build", "-o", "prog", "main.go")[0] == 0
     process = start(tool, "./prog", NETREV_LOG=str(tool.folder / "mine"))
     log = tool.folder / f"mine.{process.pid}"
-    assert waited(log.exists)
+    assert happens(log.exists)
     time.sleep(0.5)
     for words in (("--pid", str(process.pid), "convert"), ("convert", log.name)):
-        status, output = tool.called("-o", "on", *words)
-        tool.recorded(output, "on")
+        status, output = tool.call("-o", "on", *words)
+        tool.check_recording(output, "on")
         assert f"main.go:{READ_LINE}: " in output
     assert process.poll() is None
     text = log.read_bytes()
     log.write_bytes(text[: begin_of_ring(text) + 64 * 20 + 5])
-    assert "the log is cut short or damaged" in tool.called("convert", log.name)[1]
+    assert "the log is cut short or damaged" in tool.call("convert", log.name)[1]
     log.write_bytes(b"other")
-    assert "too short for a log" in tool.called("convert", log.name)[1]
+    assert "too short for a log" in tool.call("convert", log.name)[1]
 
 
 def test_a_signal_makes_a_recording_of_what_is_there(tool: Tool) -> None:
-    tool.written(program('\tos.WriteFile("here", nil, 0600)\n\tb.Read(make([]byte, 1))', "os"))
+    tool.write(program('\tos.WriteFile("here", nil, 0600)\n\tb.Read(make([]byte, 1))', "os"))
     process = start(tool, str(TOOL), "-o", "s", "-n", "9", "run", "main.go")
-    assert waited((tool.folder / "here").exists, 120)
+    assert happens((tool.folder / "here").exists, 120)
     os.kill(process.pid, signal.SIGUSR1)
     output, _ = process.communicate(timeout=120)
-    tool.recorded(output, "s-so-far-1")
-    tool.recorded(output, "s")
+    tool.check_recording(output, "s-so-far-1")
+    tool.check_recording(output, "s")
 
 
 def test_two_variables_make_any_go_record(tool: Tool) -> None:
-    tool.written(ENDS)
+    tool.write(ENDS)
     script = f'eval "$({TOOL} env)"; export NETREV_LOG=$PWD/e; go run main.go; exec {TOOL} convert e.[0-9]*'
     run = start(tool, "sh", "-c", script)
     output, _ = run.communicate(timeout=120)
@@ -358,7 +308,8 @@ def tools_without_go(tool: Tool) -> str:
 
 
 def fit(tool: Tool, changes: dict[str, dict[str, str]]) -> tuple[int, list[str]]:
-    """The message about the installed Go after some texts in its files have been changed."""
+    """The exit status and the lines of the rules' report on the installed Go, after some texts in its files have been
+    replaced."""
     go = find_go()
     points = points_program(go, tool.folder)
     for name in CHANGED:
@@ -378,29 +329,38 @@ def fit(tool: Tool, changes: dict[str, dict[str, str]]) -> tuple[int, list[str]]
     return run.returncode, run.stdout.splitlines()
 
 
-def test_what_stands_in_the_way_is_said(tool: Tool) -> None:
-    tool.written(program("\t_ = a"))
-    tool.written("package main\n\nfunc main() {}\n", "none.go")
-    python = str(Path(sys.executable).parent)
+# netrev-go's words, its settings, and its message; {python}, {tools} and {folder} are folders
+OBSTACLES: tuple[tuple[tuple[str, ...], dict[str, str], str], ...] = (
+    (("run", "none.go"), {}, "no socket was opened"),
+    (("run", "missing.go"), {}, "nothing was recorded: Go failed before it ran"),
+    (("run", "main.go"), {"PATH": "{python}:/nowhere:{tools}"}, "apt-get install golang-go"),
+    (("run", "-overlay=x.json", "main.go"), {}, "remove yours"),
+    (("run", "main.go"), {"GOFLAGS": "-overlay=x.json"}, "remove yours"),
+    (("run", "main.go"), {"GOARCH": "arm64"}, "records only linux/amd64"),
     # (Go 1.21 reads its own cache first, which is below the same folder unless GOCACHE is set)
-    nowhere = {"XDG_CACHE_HOME": "/proc/none", "GOCACHE": str(tool.folder / "go-build")}
-    ways: tuple[tuple[tuple[str, ...], dict[str, str], str], ...] = (
-        (("run", "none.go"), {}, "no socket was opened"),
-        (("run", "missing.go"), {}, "nothing was recorded: Go failed before it ran"),
-        (("run", "main.go"), {"PATH": f"{python}:/nowhere:{tools_without_go(tool)}"}, "apt-get install golang-go"),
-        (("run", "-overlay=x.json", "main.go"), {}, "remove yours"),
-        (("run", "main.go"), {"GOFLAGS": "-overlay=x.json"}, "remove yours"),
-        (("run", "main.go"), {"GOARCH": "arm64"}, "records only linux/amd64"),
-        (("run", "main.go"), nowhere, "set XDG_CACHE_HOME to another folder"),
-        (("--points", "5", "run", "main.go"), {}, "--points is from 16384 to 16777216"),
-        (("--pid", "1", "convert"), {}, "process 1"),
-        (("convert", "nothing.1"), {}, "it can't be read: No such file or directory"),
-    )
-    for words, settings, output in ways:
-        status, reports = tool.called(*words, **settings)
-        assert (status == 0) == (output == "no socket was opened"), words
-        assert output in reports, words
-        assert "Traceback" not in reports, words
+    (
+        ("run", "main.go"),
+        {"XDG_CACHE_HOME": "/proc/none", "GOCACHE": "{folder}/go-build"},
+        "set XDG_CACHE_HOME to another folder",
+    ),
+    (("--points", "5", "run", "main.go"), {}, "--points is from 16384 to 16777216"),
+    (("--pid", "1", "convert"), {}, "process 1"),
+    (("convert", "nothing.1"), {}, "it can't be read: No such file or directory"),
+)
+
+
+@pytest.mark.parametrize("words, settings, message", OBSTACLES)
+def test_it_names_what_stands_in_the_way(
+    tool: Tool, words: tuple[str, ...], settings: dict[str, str], message: str
+) -> None:
+    tool.write(program("\t_ = a"))
+    tool.write("package main\n\nfunc main() {}\n", "none.go")
+    python, tools = Path(sys.executable).parent, tools_without_go(tool)
+    filled = {name: text.format(python=python, tools=tools, folder=tool.folder) for name, text in settings.items()}
+    status, output = tool.call(*words, **filled)
+    assert (status == 0) == (message == "no socket was opened")
+    assert message in output
+    assert "Traceback" not in output
 
 
 def test_another_release_is_named_by_function_and_call(tool: Tool) -> None:
@@ -440,10 +400,10 @@ def test_a_place_where_go_passes_and_no_rule_is_doesnt_fit(tool: Tool) -> None:
 
 
 def test_the_doctor_says_that_all_is_well(tool: Tool) -> None:
-    status, output = tool.called("doctor")
+    status, output = tool.call("doctor")
     assert status == 0
-    for reports in ("rules: all fit\n", "compiled: ", "trial: the trial recording is correct: "):
-        assert reports in output
+    for line in ("rules: all fit\n", "compiled: ", "trial: the trial recording is correct: "):
+        assert line in output
     assert "calls: " not in output
 
 
@@ -469,7 +429,7 @@ def test_a_call_that_no_rule_knows_is_named(tool: Tool) -> None:
 
 def test_what_is_changed_compiles_for_another_processor(monkeypatch: pytest.MonkeyPatch, tool: Tool) -> None:
     go = find_go()
-    made = str(overlay(go))
+    changes = str(overlay(go))
     monkeypatch.setenv("GOARCH", "arm64")
-    run = quiet_go(go, tool.folder, "build", "-overlay", made, *CHANGED)
+    run = quiet_go(go, tool.folder, "build", "-overlay", changes, *CHANGED)
     assert (run.returncode, run.stderr) == (0, "")

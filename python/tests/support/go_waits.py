@@ -8,12 +8,12 @@ from pathlib import Path
 
 import pytest
 
-from dev.recorder.fetching import SUITES, here
+from dev.recorder.fetching import SUITES, here, is_here
 from netrev.recording import goroutines as where
 from netrev.recording.goroutines import GoGoroutine, ObjectUse, Park, Timer
 from netrev.recording.where import SourceLines
 
-from .go_tool import Tool, program
+from .go_programs import Tool, program
 
 HOUR = 3600 * 10**9
 FUNCTIONS = """
@@ -127,6 +127,8 @@ TWICE = ("locks", "awaits", "waits", "receives")  # with one object each
 
 
 class Waits(Tool):
+    """A folder with the program of this module, and the `lines` beside its recording, at which these methods look."""
+
     lines: SourceLines
 
     def function_of(self, stack: int) -> str:
@@ -148,10 +150,12 @@ class Waits(Tool):
         assert {name: len(parks) for name, parks in found.items()} == {name: 1 + (name in TWICE) for name in WAITS}
         for name, (reason, objects) in WAITS.items():
             for park in found[name]:
-                at = [(self.lines.objects[object.object], object.use) for object in park.objects]
-                described = sorted((of.sort, -1 if reason == where.A_SELECT else of.room, use) for of, use in at)
+                objects_there = [(self.lines.objects[at.object], at.use) for at in park.objects]
+                described = sorted(
+                    (of.sort, -1 if reason == where.A_SELECT else of.room, use) for of, use in objects_there
+                )
                 assert (name, park.reason, described) == (name, reason, sorted(objects))
-        numbers = {name: {object.object for park in parks for object in park.objects} for name, parks in found.items()}
+        numbers = {name: {at.object for park in parks for at in park.objects} for name, parks in found.items()}
         assert [len(numbers[name]) for name in TWICE] == [1] * len(TWICE)
         assert numbers["readLocks"] == numbers["writeLocks"]
         assert numbers["receives"] < numbers["selects"]
@@ -169,7 +173,7 @@ class Waits(Tool):
             (timer,) = by_function[name]
             assert timer.due - timer.time == pytest.approx(HOUR, abs=HOUR / 100)
             (park,) = found[name]
-            assert ([object.object for object in park.objects] or [0]) == [timer.object]
+            assert ([at.object for at in park.objects] or [0]) == [timer.object]
             assert timer.goid == park.goid
 
     def look_at_channels(self) -> None:
@@ -180,9 +184,9 @@ class Waits(Tool):
         (put,) = uses["sends", where.PUT]
         assert put.often == 2
         (closed,) = uses["closes", where.CLOSED]
-        (ended,) = self.ended("ends")
+        (ended,) = self.ended_goroutines("ends")
         assert ended.end >= closed.begin
-        assert self.ended("locks") == []
+        assert self.ended_goroutines("locks") == []
 
     def look_at_makings(self) -> None:
         found = self.parks()
@@ -223,7 +227,7 @@ class Waits(Tool):
         assert self.function_of(closed.stack) == "isCancelled"
         assert closed.end <= cancelled.time
 
-    def ended(self, name: str) -> list[GoGoroutine]:
+    def ended_goroutines(self, name: str) -> list[GoGoroutine]:
         """The goroutines that waited in a function and have ended."""
         goids = {
             park.goid for parks in self.lines.parks.values() for park in parks if self.function_of(park.stack) == name
@@ -233,20 +237,22 @@ class Waits(Tool):
 
 @pytest.fixture
 def tool(folder: Path, cleanups: ExitStack) -> Waits:
-    return Waits(folder, cleanups)
+    """A folder with the program of this module."""
+    tool = Waits(folder, cleanups)
+    tool.write(PROGRAM)
+    return tool
 
 
-def test_each_release_has_all_waits_and_their_objects(tool: Waits) -> None:
-    tool.written(PROGRAM)
-    folders = [str(folder) for folder in map(here, SUITES) if folder] or [""]
-    for folder in folders:
-        status, output = tool.called("run", "main.go", PATH=f"{folder}:{os.environ['PATH']}", GOTOOLCHAIN="local")
-        assert status == 0, output
-        steps = len((tool.folder / "recording.jsonl").read_text().splitlines()) - 1
-        tool.lines = SourceLines.beside(str(tool.folder / "recording.jsonl"), steps)
-        tool.look_at_waits()
-        tool.look_at_timers()
-        tool.look_at_channels()
-        tool.look_at_makings()
-        tool.look_at_holders()
-        tool.look_at_dials()
+@pytest.mark.parametrize("release", [release for release in SUITES if is_here(release)] or ["on the PATH"])
+def test_each_release_has_all_waits_and_their_objects(tool: Waits, release: str) -> None:
+    path = f"{here(release) or ''}:{os.environ['PATH']}"
+    status, output = tool.call("run", "main.go", PATH=path, GOTOOLCHAIN="local")
+    assert status == 0, output
+    steps = len((tool.folder / "recording.jsonl").read_text().splitlines()) - 1
+    tool.lines = SourceLines.beside(str(tool.folder / "recording.jsonl"), steps)
+    tool.look_at_waits()
+    tool.look_at_timers()
+    tool.look_at_channels()
+    tool.look_at_makings()
+    tool.look_at_holders()
+    tool.look_at_dials()
