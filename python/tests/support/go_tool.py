@@ -343,7 +343,7 @@ OBSTACLES: tuple[tuple[tuple[str, ...], dict[str, str], str], ...] = (
         {"XDG_CACHE_HOME": "/proc/none", "GOCACHE": "{folder}/go-build"},
         "set XDG_CACHE_HOME to another folder",
     ),
-    (("--points", "5", "run", "main.go"), {}, "--points is from 16384 to 16777216"),
+    (("--points", "5", "run", "main.go"), {}, "--points must be from 16384 to 16777216"),
     (("--pid", "1", "convert"), {}, "process 1"),
     (("convert", "nothing.1"), {}, "it can't be read: No such file or directory"),
 )
