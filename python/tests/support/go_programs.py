@@ -62,4 +62,4 @@ class Tool:
 
     def check_recording(self, output: str, name: str = "recording") -> None:
         """Checks that the output names a recording."""
-        assert re.search(rf"{name}\.jsonl: ok \d+ steps; \d+ goroutines?, \d+ sockets?", output)
+        assert re.search(rf"{name}\.jsonl: ok \d+ steps; \d+ goroutines?, \d+ sockets?", output), output

@@ -6,6 +6,7 @@ import os
 import re
 import signal
 import subprocess
+import time
 from contextlib import ExitStack
 from pathlib import Path
 
@@ -125,6 +126,7 @@ class Tested(Tool):
 
 @pytest.fixture
 def package(folder: Path, cleanups: ExitStack) -> Tested:
+    """A folder with a package whose tests pass, fail and hang."""
     return Tested(folder, cleanups)
 
 
@@ -133,11 +135,11 @@ def test_of_those_that_fail_there_are_recordings(package: Tested) -> None:
     assert (status, package.recordings()) == (1, ["p.TestParts.part_1.jsonl", "p.TestRed.jsonl"]), output
     for name in ("TestRed", r"TestParts\.part_1"):
         package.check_recording(output, rf"recordings/p\.{name}")
-    reports = {line["test"]: line for line in map(json.loads, (package.folder / "a.json").read_text().splitlines())}
-    assert reports["TestGood"]["status"] == "passed"
+    results = {line["test"]: line for line in map(json.loads, (package.folder / "a.json").read_text().splitlines())}
+    assert results["TestGood"]["status"] == "passed"
     line = TESTS[: TESTS.index("t.Error(")].count("\n") + 1
-    assert (reports["TestRed"]["file"], reports["TestRed"]["line"]) == ("p_test.go", line)
-    assert reports["TestParts/part_1"]["status"] == "failed"
+    assert (results["TestRed"]["file"], results["TestRed"]["line"]) == ("p_test.go", line)
+    assert results["TestParts/part_1"]["status"] == "failed"
 
 
 @pytest.mark.parametrize("how", ["panic", "elsewhere", "exit", "hang"])
@@ -147,16 +149,25 @@ def test_however_it_ends_the_test_that_ran_is_kept(package: Tested, how: str) ->
     assert (status, package.recordings(how)) == (1, ["p.TestEnds.jsonl"]), output
 
 
-def test_the_status_is_gos(package: Tested) -> None:
-    for words in (
+@pytest.mark.parametrize(
+    "words",
+    [
         ("-run", "Good", "."),
         ("-run", "None", "."),
         ("-list", ".", "."),
         ("-race", "-run", "Good", "-count=2", "-v", "."),
-    ):
-        assert package.common_status(*words) == 0, words
-    for words in (("-run", "Red", "."), ("./nowhere",), ("-nonsense", ".")):
-        assert package.common_status(*words) != 0, words
+    ],
+)
+def test_it_succeeds_as_go_does(package: Tested, words: tuple[str, ...]) -> None:
+    assert package.common_status(*words) == 0
+
+
+@pytest.mark.parametrize("words", [("-run", "Red", "."), ("./nowhere",), ("-nonsense", ".")])
+def test_it_fails_as_go_does(package: Tested, words: tuple[str, ...]) -> None:
+    assert package.common_status(*words) != 0
+
+
+def test_it_fails_as_go_does_if_the_package_does_not_compile(package: Tested) -> None:
     package.write("package p\n\nfunc f() { return 1 }\n", "other.go")
     assert package.common_status(".") != 0
 
@@ -181,8 +192,8 @@ def test_json_stays_json(package: Tested) -> None:
         text=True,
         check=False,
     )
-    reports = [json.loads(line) for line in run.stdout.splitlines()]
-    assert ("fail", "TestRed") in [(line["Action"], line.get("Test")) for line in reports]
+    events = [json.loads(line) for line in run.stdout.splitlines()]
+    assert ("fail", "TestRed") in [(event["Action"], event.get("Test")) for event in events]
     assert "FAILED example.org/p TestRed" in run.stderr
 
 
@@ -209,9 +220,8 @@ def test_cancelled_it_ends_as_go_does(package: Tested, number: signal.Signals, s
     package.cleanups.callback(process.kill)
     here = package.folder / "here"
     while process.poll() is None and not here.exists():
-        pass
-    os.kill(process.pid, number)
+        time.sleep(0.01)
+    process.send_signal(number)
     output, _ = process.communicate(timeout=120)
-    here.unlink()
     assert process.returncode == status, output
     assert package.recordings(number.name) == ["p.TestEnds.jsonl"], output

@@ -110,7 +110,7 @@ def test_a_program_that_may_lie_anywhere(tool: Tool) -> None:
     _, output = tool.call("-n", "1", "run", "-buildmode=pie", "main.go")
     tool.check_recording(output)
     release, _ = release_of(find_go().version)
-    assert ("Go reads no lines of it (-buildmode=pie)" if release == "1.19" else f"main.go:{READ_LINE}: ") in output
+    assert ("Go can't read lines from it (-buildmode=pie)" if release == "1.19" else f"main.go:{READ_LINE}: ") in output
 
 
 def test_a_generic_function(tool: Tool) -> None:
@@ -343,9 +343,9 @@ OBSTACLES: tuple[tuple[tuple[str, ...], dict[str, str], str], ...] = (
         {"XDG_CACHE_HOME": "/proc/none", "GOCACHE": "{folder}/go-build"},
         "set XDG_CACHE_HOME to another folder",
     ),
-    (("--points", "5", "run", "main.go"), {}, "--points is from 16384 to 16777216"),
+    (("--points", "5", "run", "main.go"), {}, "--points must be from 16384 to 16777216"),
     (("--pid", "1", "convert"), {}, "process 1"),
-    (("convert", "nothing.1"), {}, "it can't be read: No such file or directory"),
+    (("convert", "nothing.1"), {}, "nothing.1: can't be read: No such file or directory"),
 )
 
 
