@@ -197,7 +197,7 @@ try-deb:
 # release takes about an hour. `make real ONLY=net/rpc` runs some packages, `ONLY='^net$$' TESTS='^TestUnix'` some tests of a package. The gate runs a
 # small part.
 real: ready
-	@sh scripts/pytest.sh $(addprefix python/tests/support/,go_tool.py go_kept.py go_planted.py go_signals.py go_tests.py go_waits.py)
+	@sh scripts/pytest.sh $(addprefix python/tests/real_go/,go_tool.py go_kept.py go_planted.py go_signals.py go_tests.py go_waits.py)
 	@python3 python dev.recorder.real --only '$(ONLY)' --tests '$(TESTS)' --go "$(GO)"
 
 # Tests that recording changes nothing about a program and loses no run: `make trials GO="1.19 1.27"`. A release takes about ten minutes;

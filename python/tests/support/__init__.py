@@ -1,1 +1,1 @@
-"""What several tests use, and the tests of netrev-go with a real Go."""
+"""What several tests use."""
