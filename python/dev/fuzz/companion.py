@@ -20,8 +20,7 @@ from netrev.connection.scout import Scout
 from netrev.machine.cells import CELLS_OF_ALL, CELLS_OF_ONE
 from netrev.machine.observer import Observer
 from netrev.model.program import replay
-from netrev.model.session import ModelSession as ModelSession
-from netrev.model.session import recording_of
+from netrev.model.session import ModelSession, recording_of
 from netrev.recording.recording import Recording
 from netrev.session.session import Session
 from netrev.system.interrupts import Interrupts, SessionAbandonedError
