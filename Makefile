@@ -137,7 +137,7 @@ bench: ready
 	@echo
 	@python3 python dev.bench.searches
 	@echo
-	@python3 python dev.bench.companion
+	@python3 python dev.bench.nrdb_answers
 	@echo
 	@$(MAKE) --no-print-directory pace
 

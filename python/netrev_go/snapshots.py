@@ -19,10 +19,10 @@ from .go_command.outputs import base_name, look, numbered
 from .go_command.running import log_of_process, writes
 from .go_command.status import ExitStatus
 from .go_command.toolchain import Go, RecorderError
-from .log.lines import Calls, SourceRoots, lines_of
 from .log.logfile import HEADER_BYTES, ROW_WORDS, WAITER_WORDS, WORD, Header, NotALogError, stack_at
 from .log.notes import PARKED
 from .log.points import Log
+from .log.source_lines import Calls, SourceRoots, lines_of
 from .recordings import ReportPrinter, complain, say
 from .steps.conversion import RecordingOptions, convert, program_of
 from .steps.report import line_of

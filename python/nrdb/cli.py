@@ -15,7 +15,7 @@ from functools import partial
 
 from netrev.connection.arriving_changes import ArrivingChanges
 from netrev.connection.errors import MismatchedRecordingError, unexpected
-from netrev.connection.netrev import Joined, Netrev, NetrevEndedError, Own, Reply
+from netrev.connection.netrev import Netrev, NetrevEndedError, NetrevProcess, Reply, ServedSession
 from netrev.connection.output import JsonPrinter, Printer, TextPrinter, has_colours
 from netrev.connection.scout import Scout, ScoutUnavailableError
 from netrev.connection.shapes import POSITION, LineRefusedError, StrangeReplyError
@@ -142,7 +142,7 @@ def session_of(wanted: argparse.Namespace, netrev: Netrev, interrupts: Interrupt
     if wanted.join and wanted.file and (fault := fault_of(wanted.netrev, wanted.file)):
         raise NotARecordingError(messages.NOT_A_RECORDING.format(path=wanted.file, fault=fault))
     lent = netrev if is_of_all(wanted) and not wanted.lines and not wanted.join else None
-    scout = Scout(lambda: Own(wanted.netrev, wanted.file, interrupts), lent) if wanted.file else None
+    scout = Scout(lambda: NetrevProcess(wanted.netrev, wanted.file, interrupts), lent) if wanted.file else None
     # (in a batch, the output mustn't depend on how fast netrev runs)
     tell = printer.note if has_prompt(wanted) else lambda _: None
     recorded = ArrivingChanges(wanted.netrev, wanted.file, interrupts, tell) if wanted.file else None
@@ -169,8 +169,8 @@ def refused(wanted: argparse.Namespace, netrev: Netrev, first: str, printer: Pri
 def opened(wanted: argparse.Namespace, interrupts: Interrupts, printer: Printer) -> Netrev:
     """A netrev of this session alone, or a connection to a shared session."""
     if wanted.join:
-        return Joined(address(wanted.join), interrupts, lambda: printer.note(messages.NO_REPLY_YET))
-    return Own(wanted.netrev, wanted.file, interrupts)
+        return ServedSession(address(wanted.join), interrupts, lambda: printer.note(messages.NO_REPLY_YET))
+    return NetrevProcess(wanted.netrev, wanted.file, interrupts)
 
 
 def played(session: Session, wanted: argparse.Namespace) -> int:

@@ -17,9 +17,9 @@ from collections.abc import Iterator, Sequence
 from pathlib import Path
 
 from .cases import Case, make
-from .companion import visit
 from .counts import Met
 from .kept_cases import keep, kept
+from .nrdb_sessions import visit
 from .runs import difference, first_difference
 
 ROOT = Path(__file__).resolve().parents[3]

@@ -14,8 +14,8 @@ from nrdb.web.requests import LONGEST_LINE, RejectedRequestError, line_of
 from nrdb.web.shared_session import Shared
 from nrdb.web.streams import Streams, message
 
-from .companion import line_of as line_of_nrdb
 from .generators.random_steps import Author
+from .nrdb_sessions import line_of as line_of_nrdb
 from .sessions.sessions import session_over
 
 OF_FILES = ("open", "os.rename", "os.remove", "os.mkdir", "os.link", "os.symlink", "os.truncate", "shutil", "tempfile")

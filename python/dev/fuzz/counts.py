@@ -4,7 +4,7 @@ from collections import Counter
 from collections.abc import Iterator, Mapping
 from typing import Any
 
-from netrev.machine.debugger import Reply, Request
+from netrev.machine.debugger_model import Reply, Request
 from netrev.machine.observer import Observer
 from netrev.text.contents import Answer
 from netrev.text.vocabulary import KINDS

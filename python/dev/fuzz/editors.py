@@ -12,8 +12,8 @@ from nrdb.dap.adapter import Adapter
 from nrdb.dap.message_reader import Reading
 from nrdb.dap.view.messages import EditorStreams, MalformedMessageError
 
-from .companion import line_of
 from .generators.random_steps import Author
+from .nrdb_sessions import line_of
 
 REQUESTS = (
     "initialize launch attach configurationDone terminate disconnect restart continue reverseContinue stepIn stepBack next stepOut "

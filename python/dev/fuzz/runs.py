@@ -5,7 +5,7 @@ from pathlib import Path
 
 from netrev.model.program import Printed, printed
 
-from . import companion
+from . import nrdb_sessions
 from .cases import Case
 from .counts import Met
 
@@ -39,7 +39,7 @@ def difference(netrev: str, case: Case, folder: Path, counts: Met) -> Difference
     """The outputs of netrev and the model for a case if they differ, or the fault of a session of nrdb; None if there
     is no difference or fault."""
     if case.program == "nrdb":
-        wrong = companion.played(netrev, case, folder, counts)
+        wrong = nrdb_sessions.played(netrev, case, folder, counts)
         return (Printed(0, b"", wrong), Printed(0, b"")) if wrong else None
     want = wanted(case, counts)
     if want is None:

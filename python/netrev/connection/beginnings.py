@@ -6,7 +6,7 @@ from typing import Protocol
 from netrev.messages import session as messages
 from netrev.recording.recording import Recording
 
-from .netrev import Netrev, Own, Reply
+from .netrev import Netrev, NetrevProcess, Reply
 from .output import Printer, SessionPosition
 from .shapes import go_to, position_of
 
@@ -43,7 +43,7 @@ def report_begin(session: SessionParts, reply: str) -> None:
     """Goes to the beginning of the recording, and prints the position. A shared session keeps its position. `reply` is
     netrev's reply to `info position`."""
     recording = session.recording
-    if recording and begins_at(recording) and session.known_position == 0 and isinstance(session.netrev, Own):
+    if recording and begins_at(recording) and session.known_position == 0 and isinstance(session.netrev, NetrevProcess):
         go_to(begins_at(recording), session.ask)
         reply = session.ask("info position")
         session.known_position = position_of(reply).position

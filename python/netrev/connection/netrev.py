@@ -216,7 +216,7 @@ class Netrev:
         self.close()
 
 
-class Own(Netrev):
+class NetrevProcess(Netrev):
     """`netrev run FILE`, in a process group of its own, so that Ctrl-C at the keyboard doesn't reach netrev."""
 
     def __init__(self, program: str, path: str, interrupts: Interrupts):
@@ -247,7 +247,7 @@ class Own(Netrev):
         self.close()
 
 
-class Joined(Netrev):
+class ServedSession(Netrev):
     """A connection to a session of `netrev serve`, at its address. `silent` is called if the first reply takes a long
     time."""
 

@@ -6,13 +6,13 @@ from collections.abc import Iterable, Sequence
 from functools import lru_cache
 
 from netrev.recording.recording import Recording
-from netrev.text.vocabulary import Of
+from netrev.text.vocabulary import ObjectKind
 
 from .netrev import Netrev
 
 OF_POLL = re.compile(rb'"poll(?:close"\s*,\s*\d+\s*,\s*(\d+)|open"\s*,\s*\d+\s*,\s*(\d+))')
-COUNTED_BY = {Of.GOROUTINE: "gor", Of.SOCKET: "lock", Of.DESCRIPTOR: "fdseq"}
-LIMITS = {Of.GOROUTINE: "gor", Of.SOCKET: "sock", Of.DESCRIPTOR: "desc"}
+COUNTED_BY = {ObjectKind.GOROUTINE: "gor", ObjectKind.SOCKET: "lock", ObjectKind.DESCRIPTOR: "fdseq"}
+LIMITS = {ObjectKind.GOROUTINE: "gor", ObjectKind.SOCKET: "sock", ObjectKind.DESCRIPTOR: "desc"}
 AT_FIRST, TIMES = 8, 8  # the number of cells in the first query, and the factor for each later one
 BLOCK = 16_384  # the number of steps after which the open descriptors are stored again
 PIECE = 256  # the same within a block, for positions near recent ones
@@ -47,7 +47,7 @@ class PositionValues:
         (shown,) = self.netrev.looks([f"dump {dump} {socket}"])
         return [] if shown in ("-", "absent") else [int(word) for word in shown.split()]
 
-    def count(self, of: Of) -> int:
+    def count(self, of: ObjectKind) -> int:
         """The number of goroutines, sockets or descriptors that exist. Each kind of object is numbered from 0."""
         return count_at(self.netrev, of, room_for(self.recording, of))
 
@@ -121,12 +121,12 @@ def closings_and_openings(recording: Recording, first: int, last: int) -> Iterab
     return ((number, b"") if is_closed else (b"", number) for number, is_closed in numbers)
 
 
-def room_for(recording: Recording, of: Of) -> int:
+def room_for(recording: Recording, of: ObjectKind) -> int:
     """The most goroutines, sockets or descriptors that a recording may have, by its header."""
     return int(recording.limits[LIMITS[of]])
 
 
-def count_at(netrev: Netrev, of: Of, most: int) -> int:
+def count_at(netrev: Netrev, of: ObjectKind, most: int) -> int:
     """The number of goroutines, sockets or descriptors that exist at netrev's position; `most` if more of them
     exist."""
     count, size = 0, AT_FIRST

@@ -7,7 +7,7 @@ from typing import TYPE_CHECKING
 from netrev.text.contents import Answer
 
 if TYPE_CHECKING:
-    from .debugger import Reply, Request
+    from .debugger_model import Reply, Request
 
 
 class Observer:

@@ -1,9 +1,9 @@
-"""A model of a session of `netrev run`: the debugger of debugger.py over the states of the machine."""
+"""A model of a session of `netrev run`: the debugger of debugger_model.py over the states of the machine."""
 
 from collections.abc import Sequence
 
 from netrev.machine.cells import look
-from netrev.machine.debugger import FULL, DebuggedRecording, Reply, SharedState, is_command, read_line
+from netrev.machine.debugger_model import FULL, DebuggedRecording, Reply, SharedState, is_command, read_line
 from netrev.machine.machine import World
 from netrev.machine.observer import Observer
 from netrev.text.contents import Step

@@ -6,7 +6,7 @@ from dataclasses import dataclass
 from typing import Any
 
 from netrev.text.plurals import counted
-from netrev.text.vocabulary import CELLS, Of
+from netrev.text.vocabulary import CELLS, ObjectKind
 
 DUMPED = 80  # the maximum number of digits of a dump that are shown as text
 FIELD = 0xFFFFF  # the fields for references and waiters have 20 bits each
@@ -128,10 +128,10 @@ def absent_words(cell: str, limits: Mapping[str, Any]) -> str:
     """The reason why a cell is absent: no object with that number exists yet, or, by the limits in the recording's
     header, none can ever exist."""
     name, *number = cell.split()
-    of = CELLS[name].of if name in CELLS else Of.SOCKET
-    if of is Of.ALL:
+    of = CELLS[name].of if name in CELLS else ObjectKind.SOCKET
+    if of is ObjectKind.ALL:
         return "no timer is armed"
-    room = limits.get({Of.GOROUTINE: "gor", Of.SOCKET: "sock", Of.DESCRIPTOR: "desc"}[of])
+    room = limits.get({ObjectKind.GOROUTINE: "gor", ObjectKind.SOCKET: "sock", ObjectKind.DESCRIPTOR: "desc"}[of])
     if isinstance(room, int) and int(number[0]) >= room:
         return f"the recording has room for {counted(room, of.value)}, from 0 to {room - 1}"
     return f"{of.value} {number[0]} doesn't exist yet"

@@ -9,7 +9,7 @@ from typing import NamedTuple
 from urllib.parse import quote
 
 from netrev.connection.beginnings import begin_words
-from netrev.connection.netrev import Own
+from netrev.connection.netrev import NetrevProcess
 from netrev.connection.output import Table
 from netrev.connection.scout import Scout
 from netrev.findings.causes.first_output import failures_of
@@ -17,8 +17,8 @@ from netrev.findings.hangs.hang_words import hang_queries, hang_sentences, tree_
 from netrev.findings.hangs.wait_graph import graph_at
 from netrev.findings.suspects.table import suspects_table
 from netrev.recording.answers import answer_text
-from netrev.recording.step_changes import IncompleteChangesError
 from netrev.recording.recording import Recording, Step
+from netrev.recording.step_changes import IncompleteChangesError
 from netrev.recording.waits import Name
 from netrev.recording.where import OF_THE_PROGRAM, stack_lines
 from netrev.run.changes import read_with_changes
@@ -74,7 +74,7 @@ def report_of(session: Session, wanted: Wanted, reduced: Reduced, page: str) -> 
     assert recording.changes
     file = file_word(Path(reduced.path).name)
     name = shown(file)
-    scout = Scout(lambda: Own(session.program, reduced.path, session.interrupts))
+    scout = Scout(lambda: NetrevProcess(session.program, reduced.path, session.interrupts))
     try:
         table = suspects_table(scout, recording)
         parts = _of_cell(scout, recording, wanted) if wanted.cell else _of_suspect(session, table, wanted)

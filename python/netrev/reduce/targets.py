@@ -10,12 +10,12 @@ from netrev.machine.cells import value as value_of_cell
 from netrev.machine.machine import INSIDE
 from netrev.recording.cell_meanings import in_words
 from netrev.run.changes import PlayedSteps
-from netrev.text.vocabulary import CELLS, Of
+from netrev.text.vocabulary import CELLS, ObjectKind
 
 from .events import Events
 from .replay import ReplayPlayer
 
-LETTER = {Of.GOROUTINE: "g", Of.SOCKET: "s", Of.DESCRIPTOR: "d"}
+LETTER = {ObjectKind.GOROUTINE: "g", ObjectKind.SOCKET: "s", ObjectKind.DESCRIPTOR: "d"}
 
 
 class ReductionTarget(ABC):
@@ -62,18 +62,18 @@ class CellTarget(ReductionTarget):
         self.name, self.wanted, self.steps = name, wanted, [position]
         self.which: int | None = None
         self.of = CELLS[name].of
-        if self.of is Of.DESCRIPTOR:
+        if self.of is ObjectKind.DESCRIPTOR:
             self.which = self.use = events.use_at(int(number[0]), position)
             self.socket = None if self.use is None else events.uses[self.use].socket
         elif number:
             self.which = int(number[0])
-            self.goroutine = self.which if self.of is Of.GOROUTINE else None
-            self.socket = self.which if self.of is Of.SOCKET else None
+            self.goroutine = self.which if self.of is ObjectKind.GOROUTINE else None
+            self.socket = self.which if self.of is ObjectKind.SOCKET else None
         self._descriptors = {use: descriptor_use.descriptor for use, descriptor_use in enumerate(events.uses)}
 
     def shows(self, player: ReplayPlayer) -> bool:
         number = None
-        if self.which is None and self.of is not Of.ALL:  # the recording has no such use of a descriptor
+        if self.which is None and self.of is not ObjectKind.ALL:  # the recording has no such use of a descriptor
             return False
         if self.which is not None:
             number = player.numbers[LETTER[self.of]].get(self.which)

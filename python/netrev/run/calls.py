@@ -13,7 +13,7 @@ from netrev.text.vocabulary import OF_A_GOROUTINE
 
 from .flow import BY_STATUS
 from .notes import CLOSED, Look, Looks, Notes
-from .owners import NONE
+from .step_owners import NONE
 
 # A Maker is called with the book, the notes and the step's arguments, the first of which is the step's goroutine.
 Maker = Callable[..., Look]

@@ -8,8 +8,8 @@ from typing import Any
 from netrev.machine.in_place import Machine
 from netrev.messages import session as messages
 from netrev.model.changes import lines_of
-from netrev.recording.step_changes import IncompleteChangesError, RecordedChanges
 from netrev.recording.recording import Recording, Row
+from netrev.recording.step_changes import IncompleteChangesError, RecordedChanges
 from netrev.system.command_lines import file_word
 from netrev.text.contents import Limits, Step
 from netrev.text.vocabulary import KINDS, MOST

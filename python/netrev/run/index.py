@@ -14,19 +14,19 @@ from netrev.recording.call import CLOSE, CLOSE_WRITE, OPEN, Call, Outcome
 from netrev.recording.recording import Recording, Step
 from netrev.recording.waits import Name
 from netrev.recording.where import SourceCall, Stack
-from netrev.text.vocabulary import Of
+from netrev.text.vocabulary import ObjectKind
 
 from .calls import Book
 from .changes import changes_of
 from .notes import Notes
-from .owners import Place, StepOwners
 from .searches import Lock, Reference, holders_of, last_steps, takings
+from .step_owners import Place, StepOwners
 
 READING, WRITING = ("Read", "WaitRead"), ("Write", "WaitWrite")
 MOVING = ("Read", "Write")
 FIRST, END = attrgetter("first"), attrgetter("last")
 ACCEPTS = ("internal/poll.(*FD).Accept",)
-COLUMNS = {Of.GOROUTINE: "goroutines", Of.SOCKET: "sockets", Of.DESCRIPTOR: "descriptors"}
+COLUMNS = {ObjectKind.GOROUTINE: "goroutines", ObjectKind.SOCKET: "sockets", ObjectKind.DESCRIPTOR: "descriptors"}
 
 
 class RunIndex:
@@ -58,7 +58,7 @@ class RunIndex:
         steps are read."""
         return StepOwners(self.notes, first, last).used()
 
-    def steps_of(self, of: Of, number: int, after: int = 0, until: int | None = None) -> Iterator[int]:
+    def steps_of(self, of: ObjectKind, number: int, after: int = 0, until: int | None = None) -> Iterator[int]:
         """The steps of a goroutine, a socket or a descriptor that lead from one position to another."""
         column = getattr(self.owners, COLUMNS[of])
         with suppress(ValueError):
@@ -68,7 +68,7 @@ class RunIndex:
 
     def next_step(self, goroutine: int, position: int) -> int | None:
         """A goroutine's first step after a position."""
-        return next(self.steps_of(Of.GOROUTINE, goroutine, position), None)
+        return next(self.steps_of(ObjectKind.GOROUTINE, goroutine, position), None)
 
     def last_step(self, goroutine: int, position: int) -> int:
         """A goroutine's last step up to a position; 0 if it has made none."""
@@ -102,7 +102,7 @@ class RunIndex:
         exists, or if the function isn't known. A call of the function from another line or from another function counts
         as outside."""
         frames, lines = frames_from_own(self.stack_at(goroutine, position)), self.recording.lines
-        later = self.steps_of(Of.GOROUTINE, goroutine, position) if frames else ()
+        later = self.steps_of(ObjectKind.GOROUTINE, goroutine, position) if frames else ()
         return next((step - 1 for step in later if not is_within(lines.of(step), frames)), None)
 
     # ---- calls

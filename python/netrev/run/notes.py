@@ -17,7 +17,6 @@ from functools import lru_cache
 from types import MappingProxyType
 from typing import Any
 
-from netrev.recording.step_changes import RecordedChanges, StepChanges
 from netrev.recording.notes import (
     AT,
     CLOSING,
@@ -44,6 +43,7 @@ from netrev.recording.notes import (
     new,
 )
 from netrev.recording.recording import Recording
+from netrev.recording.step_changes import RecordedChanges, StepChanges
 from netrev.system.garbage_collection import without_collections
 from netrev.text.vocabulary import OF_A_GOROUTINE
 

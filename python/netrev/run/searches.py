@@ -8,8 +8,8 @@ from itertools import islice
 from typing import NamedTuple
 
 from netrev.recording.cell_meanings import LockWord
-from netrev.recording.step_changes import RecordedChanges
 from netrev.recording.recording import Recording, Step
+from netrev.recording.step_changes import RecordedChanges
 from netrev.text.vocabulary import OF_A_GOROUTINE
 
 Lock = tuple[int, str]  # a socket and a side

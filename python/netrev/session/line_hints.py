@@ -6,7 +6,7 @@ import unicodedata
 from collections.abc import Callable
 
 from netrev.messages import lines as messages
-from netrev.text.vocabulary import CELLS, DUMPS, KINDS, MOST, MOST_LINE, Cell, Of, cell_of, number_of
+from netrev.text.vocabulary import CELLS, DUMPS, KINDS, MOST, MOST_LINE, Cell, ObjectKind, cell_of, number_of
 
 from .commands import ALL_TOPICS, COMMANDS, SPELLINGS, TOPIC_SPELLINGS, TOPICS
 
@@ -67,7 +67,7 @@ def of_cell(words: list[str], command: str) -> str:
 
 def of_numbered(cell: Cell, rest: list[str], command: str) -> str:
     """The hint for a known cell with wrong words after it."""
-    if cell.of is Of.ALL:
+    if cell.of is ObjectKind.ALL:
         return messages.NO_NUMBER.format(command=command, cell=cell.name)
     if not rest:
         return messages.NUMBER_OF.format(command=command, cell=cell.name, of=cell.of.value)

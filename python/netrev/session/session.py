@@ -5,7 +5,7 @@ from dataclasses import dataclass, field
 
 from netrev.connection.beginnings import report_begin
 from netrev.connection.errors import MismatchedRecordingError, UsageError, needed, unexpected
-from netrev.connection.netrev import Joined, Netrev, NetrevEndedError, Reply
+from netrev.connection.netrev import Netrev, NetrevEndedError, Reply, ServedSession
 from netrev.connection.output import Printer, SessionPosition, displays_table
 from netrev.connection.scout import Scout, ScoutUnavailableError
 from netrev.connection.shapes import (
@@ -25,8 +25,8 @@ from netrev.connection.shapes import (
 from netrev.connection.world import PositionValues
 from netrev.messages import session as messages
 from netrev.recording.cell_meanings import absent_words, dump_words, in_words
-from netrev.recording.step_changes import RecordedChanges
 from netrev.recording.recording import NotARecordingError, Recording
+from netrev.recording.step_changes import RecordedChanges
 from netrev.recording.waits import Name
 from netrev.system.interrupts import Interrupts, SearchInterruptedError, SessionAbandonedError
 from netrev.text.text_files import lines_of_script
@@ -35,9 +35,9 @@ from netrev.views.change_tables import tables_beside
 
 from .attached_commands import Attached
 from .commands import COMMANDS, AmbiguousWordError, is_answered_here, parts_of, whole_words
-from .conditions import Condition
 from .line_breaks import Breaks, names_a_place
 from .line_hints import hint
+from .mark_conditions import Condition
 from .queries import answer_run, runs_of
 
 STOPPING = ("continue", "reverse-continue", "resume")
@@ -283,7 +283,7 @@ class Session:
 
     def report_others(self) -> None:
         """In a shared session, prints the position if another user has moved it."""
-        if not isinstance(self.netrev, Joined):
+        if not isinstance(self.netrev, ServedSession):
             return
         reply = self.ask("info position")
         if POSITION.fullmatch(reply) and (now := position_of(reply).position) != self.known_position:

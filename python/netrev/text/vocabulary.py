@@ -12,7 +12,7 @@ MOST_STANDING = 64
 VERSIONS = (1, 2)
 
 
-class Of(Enum):
+class ObjectKind(Enum):
     """The owner of a cell: the whole machine, or each goroutine, socket or descriptor."""
 
     ALL = "machine"
@@ -42,7 +42,7 @@ class Cell:
     """A cell of `print` and `watch`, its owner, and the meaning of its value."""
 
     name: str
-    of: Of
+    of: ObjectKind
     says: str
 
 
@@ -109,26 +109,26 @@ def is_answer(value: object) -> bool:
 CELLS = {
     cell.name: cell
     for cell in (
-        Cell("clock", Of.ALL, "the time, in nanoseconds"),
-        Cell("waiters", Of.ALL, "the number of parked goroutines"),
-        Cell("timers", Of.ALL, "the number of armed timers"),
-        Cell("firings", Of.ALL, "the number of started timer functions that haven't run"),
-        Cell("least", Of.ALL, "when the first timer is due"),
-        Cell("gor", Of.GOROUTINE, "the goroutine's status"),
-        Cell("lock", Of.SOCKET, "the lock word"),
-        Cell("rsem", Of.SOCKET, "the count of the read semaphore"),
-        Cell("wsem", Of.SOCKET, "the count of the write semaphore"),
-        Cell("in", Of.SOCKET, "the number of bytes in the input"),
-        Cell("out", Of.SOCKET, "the number of bytes in the output"),
-        Cell("rg", Of.DESCRIPTOR, "the word for reading"),
-        Cell("wg", Of.DESCRIPTOR, "the word for writing"),
-        Cell("rd", Of.DESCRIPTOR, "the read deadline"),
-        Cell("wd", Of.DESCRIPTOR, "the write deadline"),
-        Cell("rseq", Of.DESCRIPTOR, "the sequence of the read timer"),
-        Cell("wseq", Of.DESCRIPTOR, "the sequence of the write timer"),
-        Cell("fdseq", Of.DESCRIPTOR, "the number of this use of the descriptor"),
-        Cell("info", Of.DESCRIPTOR, "closing, event error and passed deadlines in one number"),
-        Cell("shut", Of.SOCKET, "1 if the write side is closed, else 0"),
+        Cell("clock", ObjectKind.ALL, "the time, in nanoseconds"),
+        Cell("waiters", ObjectKind.ALL, "the number of parked goroutines"),
+        Cell("timers", ObjectKind.ALL, "the number of armed timers"),
+        Cell("firings", ObjectKind.ALL, "the number of started timer functions that haven't run"),
+        Cell("least", ObjectKind.ALL, "when the first timer is due"),
+        Cell("gor", ObjectKind.GOROUTINE, "the goroutine's status"),
+        Cell("lock", ObjectKind.SOCKET, "the lock word"),
+        Cell("rsem", ObjectKind.SOCKET, "the count of the read semaphore"),
+        Cell("wsem", ObjectKind.SOCKET, "the count of the write semaphore"),
+        Cell("in", ObjectKind.SOCKET, "the number of bytes in the input"),
+        Cell("out", ObjectKind.SOCKET, "the number of bytes in the output"),
+        Cell("rg", ObjectKind.DESCRIPTOR, "the word for reading"),
+        Cell("wg", ObjectKind.DESCRIPTOR, "the word for writing"),
+        Cell("rd", ObjectKind.DESCRIPTOR, "the read deadline"),
+        Cell("wd", ObjectKind.DESCRIPTOR, "the write deadline"),
+        Cell("rseq", ObjectKind.DESCRIPTOR, "the sequence of the read timer"),
+        Cell("wseq", ObjectKind.DESCRIPTOR, "the sequence of the write timer"),
+        Cell("fdseq", ObjectKind.DESCRIPTOR, "the number of this use of the descriptor"),
+        Cell("info", ObjectKind.DESCRIPTOR, "closing, event error and passed deadlines in one number"),
+        Cell("shut", ObjectKind.SOCKET, "1 if the write side is closed, else 0"),
     )
 }
 
@@ -225,7 +225,7 @@ def cell_of(words: Sequence[str]) -> str | None:
     cell = CELLS.get(words[0]) if words else None
     if cell is None:
         return None
-    if cell.of is Of.ALL:
+    if cell.of is ObjectKind.ALL:
         return cell.name if len(words) == 1 else None
     number = number_of(words[1]) if len(words) == 2 else None
     return None if number is None else f"{cell.name} {number}"

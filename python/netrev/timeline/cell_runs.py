@@ -9,16 +9,16 @@ from netrev.connection.netrev import Netrev
 from netrev.connection.scout import Scout
 from netrev.connection.world import COUNTED_BY, count_at, room_for
 from netrev.messages import searches as messages
-from netrev.recording.step_changes import RecordedChanges
 from netrev.recording.recording import Recording
+from netrev.recording.step_changes import RecordedChanges
 from netrev.session.session import UsageError
-from netrev.text.vocabulary import CELLS, Of
+from netrev.text.vocabulary import CELLS, ObjectKind
 
 Runs = dict[str, list[tuple[int, str]]]  # for each cell, the positions at which its value changes, with the new value
 COMPARED = 16  # the number of positions at which all cells are compared
 QUEUES = ("rq", "wq")
-NAMES = {of: [cell.name for cell in CELLS.values() if cell.of is of] for of in Of}
-NAMES[Of.SOCKET] += QUEUES
+NAMES = {of: [cell.name for cell in CELLS.values() if cell.of is of] for of in ObjectKind}
+NAMES[ObjectKind.SOCKET] += QUEUES
 
 
 @dataclass(frozen=True)
@@ -55,7 +55,7 @@ def existing_cells(recording: Recording, netrev: Netrev) -> list[str]:
     """All cells of the objects that exist at netrev's position, and the queues."""
     counts = {of: count_at(netrev, of, room_for(recording, of)) for of in COUNTED_BY}
     numbered = (f"{name} {number}" for of, count in counts.items() for number in range(count) for name in NAMES[of])
-    return [*NAMES[Of.ALL], *numbered]
+    return [*NAMES[ObjectKind.ALL], *numbered]
 
 
 def shown_of(scout: Scout, cells: Iterable[str], position: int) -> list[str]:

@@ -8,8 +8,8 @@ from netrev.connection.beginnings import begins_at
 from netrev.connection.scout import Scout
 from netrev.findings.evidence.call_words import name_of
 from netrev.recording.call import Call
-from netrev.recording.step_changes import RecordedChanges
 from netrev.recording.recording import Recording
+from netrev.recording.step_changes import RecordedChanges
 from netrev.text.plain import plain
 
 from .calls import Data, shown_calls

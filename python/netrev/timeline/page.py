@@ -6,7 +6,7 @@ from pathlib import Path
 from typing import Any
 
 from netrev.connection.beginnings import begins_at
-from netrev.connection.netrev import Own
+from netrev.connection.netrev import NetrevProcess
 from netrev.connection.scout import Scout
 from netrev.messages import searches as messages
 from netrev.recording.recording import Recording
@@ -76,7 +76,7 @@ def write_page_beside(program: str, path: str, recording: Recording | None = Non
     recording = recording or read_with_changes(program, path)
     assert recording.changes is not None
     recording.suspects = recording.suspects or SuspectList(program, path, interrupts)
-    scout = Scout(lambda: Own(program, path, interrupts))
+    scout = Scout(lambda: NetrevProcess(program, path, interrupts))
     shown = PageSources(recording, path, scout, recording.changes, begins_at(recording), [], lambda _: None)
     try:
         write_page(shown, beside)

@@ -9,8 +9,8 @@ from netrev.connection.beginnings import begins_at
 from netrev.connection.scout import Scout
 from netrev.connection.shapes import ListedMark
 from netrev.recording.cell_meanings import in_words
-from netrev.recording.step_changes import RecordedChanges
 from netrev.recording.recording import Recording, shortened
+from netrev.recording.step_changes import RecordedChanges
 from netrev.session.session import Session
 from netrev.text.vocabulary import CELLS
 

@@ -5,10 +5,10 @@ from typing import Any
 
 from netrev.connection.shapes import ListedMark
 from netrev.machine.machine import INSIDE
-from netrev.recording.step_changes import RecordedChanges
 from netrev.recording.recording import Recording
+from netrev.recording.step_changes import RecordedChanges
 from netrev.run.index import run_of
-from netrev.run.owners import NONE
+from netrev.run.step_owners import NONE
 
 from .calls import Data
 from .cell_runs import Runs, Window

@@ -4,7 +4,7 @@ apart without colour."""
 from dataclasses import dataclass
 
 from netrev.recording.cell_meanings import LockWord
-from netrev.text.vocabulary import Of
+from netrev.text.vocabulary import ObjectKind
 
 
 @dataclass(frozen=True)
@@ -15,10 +15,10 @@ class Shade:
     light: str
     dark: str
     says: str
-    of: Of
+    of: ObjectKind
 
 
-def _shades(of: Of, rows: str) -> dict[str, Shade]:
+def _shades(of: ObjectKind, rows: str) -> dict[str, Shade]:
     shades = {}
     for row in rows.strip().splitlines():
         name, light, dark, says = row.split(None, 3)
@@ -28,7 +28,7 @@ def _shades(of: Of, rows: str) -> dict[str, Shade]:
 
 SHADES = {
     **_shades(
-        Of.GOROUTINE,
+        ObjectKind.GOROUTINE,
         """
         gone #ffffff #11151b gone
         idle #e9edf1 #222a35 idle
@@ -45,7 +45,7 @@ SHADES = {
         """,
     ),
     **_shades(
-        Of.DESCRIPTOR,
+        ObjectKind.DESCRIPTOR,
         """
         nil #edf0f3 #222a35 nil
         ready #f0d57a #a0893a an event came
@@ -54,7 +54,7 @@ SHADES = {
         """,
     ),
     **_shades(
-        Of.SOCKET,
+        ObjectKind.SOCKET,
         """
         free #edf0f3 #222a35 no reference
         referred #d3e8d6 #2c4a3a references

@@ -18,8 +18,8 @@ from typing import IO, Any, cast
 from netrev.connection.beginnings import begin_words, begins_at
 from netrev.connection.scout import Scout
 from netrev.messages import searches as messages
-from netrev.recording.step_changes import RecordedChanges, value_at_start
 from netrev.recording.recording import SHOWN, Recording, shortened
+from netrev.recording.step_changes import RecordedChanges, value_at_start
 from netrev.recording.where import SourceLines
 from netrev.session.files import writing
 from netrev.session.session import Session, UsageError

@@ -12,10 +12,10 @@ from netrev.recording.call import Call
 from netrev.recording.recording import Recording, Step
 from netrev.run.index import run_of
 from netrev.run.timers import timer_of, timer_words
-from netrev.text.vocabulary import KINDS, Of, number_of
+from netrev.text.vocabulary import KINDS, ObjectKind, number_of
 
 MOST = 40
-SUBJECTS = {"gor": Of.GOROUTINE, "sock": Of.SOCKET, "desc": Of.DESCRIPTOR}
+SUBJECTS = {"gor": ObjectKind.GOROUTINE, "sock": ObjectKind.SOCKET, "desc": ObjectKind.DESCRIPTOR}
 
 
 class Subject(NamedTuple):

@@ -7,13 +7,13 @@ from itertools import islice
 from netrev.connection.output import Row, Table, Values
 from netrev.connection.shapes import ListedMark
 from netrev.recording.cell_meanings import in_words
-from netrev.recording.step_changes import RecordedChanges, value_at_start
 from netrev.recording.recording import Recording
+from netrev.recording.step_changes import RecordedChanges, value_at_start
 from netrev.run.timers import timer_words, timers_beside
-from netrev.text.vocabulary import CELLS, Of
+from netrev.text.vocabulary import CELLS, ObjectKind
 
 MOST = 40
-ORDER = (Of.GOROUTINE, Of.SOCKET, Of.DESCRIPTOR, Of.ALL)
+ORDER = (ObjectKind.GOROUTINE, ObjectKind.SOCKET, ObjectKind.DESCRIPTOR, ObjectKind.ALL)
 NAMES = list(CELLS)
 NOTHING = "changed: nothing that a cell shows"
 

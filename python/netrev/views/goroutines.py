@@ -15,7 +15,7 @@ from netrev.recording.where import Stack
 from netrev.run.index import run_of
 from netrev.run.searches import Lock
 from netrev.text.plurals import counted
-from netrev.text.vocabulary import Of
+from netrev.text.vocabulary import ObjectKind
 
 QUIET = ("idle", "gone")
 QUEUES = {"r": "rq", "w": "wq"}
@@ -170,7 +170,7 @@ class TableWaits:
 def goroutines_table(world: PositionValues, numbers: Iterable[int] | None = None, is_all: bool = False) -> Table:
     """The table of the goroutines that do something or wait, of all goroutines, or of the goroutines with these
     numbers. Waiting goroutines without a step in the recording come last."""
-    every = list(range(world.count(Of.GOROUTINE)) if numbers is None else numbers)
+    every = list(range(world.count(ObjectKind.GOROUTINE)) if numbers is None else numbers)
     statuses = {number: status for number, (status,) in world.of_each(every, "gor").items()}
     elsewhere = {wait.name: wait for wait in waits_of(world.recording).all_at(world.position)}
     shown = [

@@ -8,7 +8,7 @@ from netrev.recording.cell_meanings import SIDES, LockWord, info_words, lock_wor
 from netrev.run.index import run_of
 from netrev.run.searches import Reference
 from netrev.text.plurals import counted
-from netrev.text.vocabulary import Of
+from netrev.text.vocabulary import ObjectKind
 
 SOCKET_CELLS = ("lock", "rsem", "wsem", "in", "out", "shut")
 DESCRIPTOR_CELLS = ("info", "rg", "wg", "rd", "wd", "fdseq")
@@ -16,7 +16,7 @@ DESCRIPTOR_CELLS = ("info", "rg", "wg", "rd", "wd", "fdseq")
 
 def sockets_table(world: PositionValues, numbers: Iterable[int] | None = None, is_all: bool = False) -> Table:
     """The table of the sockets that aren't at rest, of all sockets, or of the sockets with these numbers."""
-    every = list(range(world.count(Of.SOCKET)) if numbers is None else numbers)
+    every = list(range(world.count(ObjectKind.SOCKET)) if numbers is None else numbers)
     cells = world.of_each(every, *SOCKET_CELLS)
     owners = {socket: descriptor for descriptor, socket in world.sockets_of_open().items()}
     rows = []
@@ -55,7 +55,7 @@ def _socket_row(number: int, values: list[str], queues: list[list[int]], descrip
 def descriptors_table(world: PositionValues, numbers: Iterable[int] | None = None, is_all: bool = False) -> Table:
     """The table of the open descriptors, of all descriptors, or of the descriptors with these numbers."""
     sockets = world.sockets_of_open()
-    every = list(range(world.count(Of.DESCRIPTOR)) if numbers is None else numbers)
+    every = list(range(world.count(ObjectKind.DESCRIPTOR)) if numbers is None else numbers)
     shown = [number for number in every if is_all or numbers is not None or number in sockets]
     cells = world.of_each(shown, *DESCRIPTOR_CELLS)
     rows = [_descriptor_row(number, cells[number], sockets.get(number)) for number in shown]

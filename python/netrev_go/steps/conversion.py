@@ -15,13 +15,13 @@ from netrev_go.go_command.line_reader import line_reader
 from netrev_go.go_command.outputs import LINES, WORDS
 from netrev_go.go_command.toolchain import Go
 from netrev_go.log.goroutines import Goroutines
-from netrev_go.log.lines import Calls, SourceRoots, lines_of
 from netrev_go.log.logfile import NotALogError, read_log
 from netrev_go.log.points import Log
 from netrev_go.log.sockets import MOST_MEGABYTES, MOST_SOCKETS
+from netrev_go.log.source_lines import Calls, SourceRoots, lines_of
 from netrev_go.log.tests_in_log import Ran, Tests, of_log
 
-from .goroutine_lines import Everybody, kept
+from .goroutine_records import Everybody, kept
 from .recording_builder import (
     NewRecording,
     NoSocketError,

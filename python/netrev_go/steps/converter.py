@@ -21,7 +21,7 @@ from netrev_go.log.prelude import NOBODY, Lead, passing
 from netrev_go.log.socket_facts import OF_UNIX, Beside
 from netrev_go.log.sockets import AGAIN, BUFFER, FEW_BYTES, LoggedSocket
 
-from .lead_ins import close_write, lead
+from .leading_steps import close_write, lead
 from .single_step_lines import REPEATED, read_line, repeated_line
 from .zeros import Line, arrival, drained, put_line, written
 

@@ -37,7 +37,7 @@ from netrev_go.log.times import times_of
 from netrev_go.log.waits import waits_of
 
 from .converter import Converter
-from .lead_ins import LatePreludeError
+from .leading_steps import LatePreludeError
 from .zeros import Line
 
 LockWord = tuple[int, int, int]  # the step before, the socket, and the word

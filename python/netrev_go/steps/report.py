@@ -28,7 +28,7 @@ from netrev.system.program_path import netrev_program
 from netrev.system.time_limits import LateError
 from netrev.text.plain import plain
 from netrev.text.plurals import counted
-from netrev_go.log.lines import OF_GO, Calls, LineCall
+from netrev_go.log.source_lines import OF_GO, Calls, LineCall
 
 from .analysis import Analysis, hanging, never_closed
 from .recording_builder import NewRecording

@@ -7,12 +7,12 @@ import pathlib
 from collections.abc import Iterable, Sequence
 
 from netrev.text.files import written_whole
-from netrev_go.log.lines import OF_A_LIBRARY, OF_THE_PROGRAM, Calls, LineCall
 from netrev_go.log.orders import parts
 from netrev_go.log.socket_facts import Beside
+from netrev_go.log.source_lines import OF_A_LIBRARY, OF_THE_PROGRAM, Calls, LineCall
 from netrev_go.log.times import deltas
 
-from .goroutine_lines import HELD, Everybody
+from .goroutine_records import HELD, Everybody
 
 STEPS_A_LINE = 1_000
 of_json = json.JSONEncoder(separators=(",", ":")).encode

@@ -9,7 +9,7 @@ from typing import NamedTuple
 
 from netrev.errors import NetrevError
 from netrev.messages import editors as texts
-from netrev.session.conditions import Condition
+from netrev.session.mark_conditions import Condition
 from netrev.session.session import Session
 from netrev.text.vocabulary import KINDS, cell_of, number_of
 

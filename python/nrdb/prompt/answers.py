@@ -12,7 +12,7 @@ from netrev.recording.answers import spelled
 from netrev.run.timers import timer_words
 from netrev.session.commands import ALL_TOPICS, COMMANDS, FORMS, OF_NETREV, OF_NRDB, TOPICS, Origin, whole_command
 from netrev.session.session import Answering, Session, UsageError
-from netrev.text.vocabulary import CELLS, KINDS, REASONS, Of, cell_of, number_of
+from netrev.text.vocabulary import CELLS, KINDS, REASONS, ObjectKind, cell_of, number_of
 from netrev.views.change_tables import history_table
 from netrev.views.goroutines import goroutines_table
 from netrev.views.places import descriptors_table, holders_table, sockets_table, timers_table
@@ -73,7 +73,7 @@ def help_of(words: list[str]) -> Iterator[str]:
     if word in KINDS:
         yield f"step {KINDS[word].usage}: {KINDS[word].says}; it answers {spelled(word)}"
     if word in CELLS:
-        of = "" if CELLS[word].of is Of.ALL else f" of a {CELLS[word].of.value}"
+        of = "" if CELLS[word].of is ObjectKind.ALL else f" of a {CELLS[word].of.value}"
         yield f"cell {word}: {CELLS[word].says}{of}"
     if reason is not None and reason < len(REASONS):
         yield f"reason {reason}: {REASONS[reason]}"

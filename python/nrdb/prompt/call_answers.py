@@ -6,7 +6,7 @@ from netrev.connection.output import Table
 from netrev.connection.shapes import MOVED, move_of
 from netrev.messages import session as messages
 from netrev.session.commands import COMMANDS, TOPICS
-from netrev.session.conditions import Condition
+from netrev.session.mark_conditions import Condition
 from netrev.session.session import Answering, Session, UsageError
 from netrev.text.vocabulary import number_of
 from netrev.views.calls import (

@@ -7,15 +7,20 @@ from netrev.recording.recording import Recording
 from netrev.recording.where import OF_THE_PROGRAM
 from netrev.session.commands import COMMANDS, DIRECTIONS, PAGINATION, TOPICS, AmbiguousWordError, whole_words
 from netrev.session.session import Session
-from netrev.text.vocabulary import CELLS, DUMPS, KINDS, Of
+from netrev.text.vocabulary import CELLS, DUMPS, KINDS, ObjectKind
 
-NUMBERED_TOPICS = {"goroutines": Of.GOROUTINE, "sockets": Of.SOCKET, "descriptors": Of.DESCRIPTOR, "holders": Of.SOCKET}
+NUMBERED_TOPICS = {
+    "goroutines": ObjectKind.GOROUTINE,
+    "sockets": ObjectKind.SOCKET,
+    "descriptors": ObjectKind.DESCRIPTOR,
+    "holders": ObjectKind.SOCKET,
+}
 OF_CELL = ("print", "watch", "display", "undisplay", "history", "until", "reverse-until")
 OF_A_KIND = ("break", "tbreak")
 OF_A_PLACE = (*OF_A_KIND, "goto", "list", "until", "reverse-until", "history")
 BEHIND_A_FILE = ("reduce", "report")
 STATUSES = "idle gone acquiring queued relock owing entering armed parking parked swapping checking".split()
-FOLLOWED = {"gor": Of.GOROUTINE, "sock": Of.SOCKET, "desc": Of.DESCRIPTOR}
+FOLLOWED = {"gor": ObjectKind.GOROUTINE, "sock": ObjectKind.SOCKET, "desc": ObjectKind.DESCRIPTOR}
 OF_A_GOROUTINE = ("goroutine", "next", "finish", "reverse-next", "reverse-finish")
 MOST_NUMBERS = 200
 VALUES = {"gor": STATUSES, "rg": ["nil", "ready", "wait"], "wg": ["nil", "ready", "wait"]}
@@ -32,7 +37,7 @@ def completions(line: str, session: Session) -> list[str]:
     return [word for word in found if word.startswith(last)]
 
 
-def numbers_in(session: Session, of: Of) -> list[str]:
+def numbers_in(session: Session, of: ObjectKind) -> list[str]:
     """The numbers in use at the session's position."""
     return [str(number) for number in range(count_at(session.netrev, of, MOST_NUMBERS))]
 
@@ -47,7 +52,7 @@ def places_in(recording: Recording | None) -> list[str]:
 
 
 def candidates(
-    before: list[str], numbers: Callable[[Of], list[str]], places: Callable[[], list[str]] = list
+    before: list[str], numbers: Callable[[ObjectKind], list[str]], places: Callable[[], list[str]] = list
 ) -> list[str]:
     """The words that can follow these words. `numbers` gives the numbers in use, and `places` the functions and lines
     of the program."""
@@ -64,7 +69,7 @@ def candidates(
     if first == "condition" and rest:
         return of_cell(rest[1:], numbers)
     if first in OF_A_GOROUTINE and not rest:
-        return numbers(Of.GOROUTINE)
+        return numbers(ObjectKind.GOROUTINE)
     if len(rest) == 1 and first in ("steps", "calls") and rest[0] in FOLLOWED:
         return numbers(FOLLOWED[rest[0]])
     if first in BEHIND_A_FILE and rest:
@@ -82,7 +87,7 @@ def candidates(
             "help": [*COMMANDS, *KINDS, *CELLS],
         }.get(first, [])
     if len(rest) == 1 and first == "dump":
-        return numbers(Of.SOCKET)
+        return numbers(ObjectKind.SOCKET)
     if len(rest) == 1 and first == "set":
         return ["on", "off"] if rest[0] == PAGINATION else list(DIRECTIONS)
     if len(rest) == 1 and first == "info" and rest[0] in NUMBERED_TOPICS:
@@ -90,16 +95,16 @@ def candidates(
     return []
 
 
-def of_cell(rest: list[str], numbers: Callable[[Of], list[str]]) -> list[str]:
+def of_cell(rest: list[str], numbers: Callable[[ObjectKind], list[str]]) -> list[str]:
     """The words that can come next in a cell. `rest` has the words typed so far."""
     if not rest:
         return list(CELLS)
     cell = CELLS.get(rest[0])
     if cell is None:
         return []
-    if len(rest) == 1 and cell.of is not Of.ALL:
+    if len(rest) == 1 and cell.of is not ObjectKind.ALL:
         return numbers(cell.of)
-    length = 2 if cell.of is Of.ALL else 3
+    length = 2 if cell.of is ObjectKind.ALL else 3
     if rest[length:] and rest[-1] == "and":
         return list(CELLS)
     if "and" in rest[length:-1]:

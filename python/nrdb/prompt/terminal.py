@@ -14,7 +14,7 @@ from netrev.recording.recording import NotARecordingError
 from netrev.session.commands import COMMANDS, AmbiguousWordError, whole_words
 from netrev.session.session import Session
 from netrev.system.interrupts import SearchInterruptedError
-from netrev.text.vocabulary import Of
+from netrev.text.vocabulary import ObjectKind
 
 from .completion import candidates, numbers_in, places_in
 from .pager import Paged
@@ -132,7 +132,7 @@ class Terminal:
             self._found = [f"{word} " for word in every if word.startswith(text)]
         return self._found[at] if at < len(self._found) else None
 
-    def _numbers(self, of: Of) -> list[str]:
+    def _numbers(self, of: ObjectKind) -> list[str]:
         """The numbers in use at the position."""
         try:
             return numbers_in(self.session, of)

@@ -12,7 +12,7 @@ from queue import Full, Queue
 from threading import Thread
 
 from netrev.connection.arriving_changes import ArrivingChanges
-from netrev.connection.netrev import Own
+from netrev.connection.netrev import NetrevProcess
 from netrev.connection.scout import Scout, ScoutUnavailableError
 from netrev.connection.shapes import LineRefusedError
 from netrev.messages import browsers as texts
@@ -111,7 +111,7 @@ def paint(program: str, path: str) -> None:
     """Makes pictures until the input ends. Each line of the input requests a picture, and each picture is written as a
     line of the output."""
     interrupts = Interrupts()
-    scout = Scout(lambda: Own(program, path, interrupts))
+    scout = Scout(lambda: NetrevProcess(program, path, interrupts))
     changes = ArrivingChanges(program, path, interrupts, lambda _: None)
     suspects = SuspectList(program, path, interrupts)
     try:

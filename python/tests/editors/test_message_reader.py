@@ -16,7 +16,7 @@ import pytest
 from netrev.connection.collected_output import Collecting
 from netrev.session.session import Session
 from netrev.system.interrupts import Interrupts, SearchInterruptedError, SessionAbandonedError
-from nrdb.dap import message_reader, moves, progress
+from nrdb.dap import message_reader, progress
 from nrdb.dap.breakpoint_requests import BreakpointError, BreakpointRequest, HitCount, wish_of
 from nrdb.dap.go_lines import GoLines
 from nrdb.dap.logpoints import LogPoints
@@ -303,7 +303,7 @@ def moves_of(interrupts: Interrupts) -> tuple[Moves, Marks, Debuggee]:
 def stops(interrupts: Interrupts, piece: int) -> list[tuple[Stop, int]]:
     """The stops and positions after moves in both directions, if netrev makes this many steps at once."""
     with pytest.MonkeyPatch.context() as patch:
-        patch.setattr(moves, "PIECE", piece)
+        patch.setattr("nrdb.dap.moves.PIECE", piece)
         moves, marks, debuggee = moves_of(interrupts)
         wishes = [wish_of("pollreset", {"condition": "gor 2 idle"}), wish_of("rwlock", {"hitCondition": "% 3"})]
         marks.replace(BreakpointKind.FUNCTION, wishes)
@@ -323,7 +323,7 @@ def test_pieces_change_nothing(interrupts: Interrupts) -> None:
 
 
 def test_a_pause_stops_between_two(monkeypatch: pytest.MonkeyPatch, interrupts: Interrupts) -> None:
-    monkeypatch.setattr(moves, "PIECE", 10)
+    monkeypatch.setattr("nrdb.dap.moves.PIECE", 10)
     moves, _, debuggee = moves_of(interrupts)
 
     def paused(position: int, length: int) -> None:

@@ -61,7 +61,7 @@ def modelled() -> Iterator[None]:
     with pytest.MonkeyPatch.context() as patch:
         for module in ANSWERED:
             patch.setattr(f"netrev.{module}.answered_by", answered_by)
-        patch.setattr("netrev.reduce.report.Own", own)
+        patch.setattr("netrev.reduce.report.NetrevProcess", own)
         patch.setattr("netrev.reduce.report.read_with_changes", read_with_changes)
         patch.setattr("netrev.explore.commands.processors", lambda: 1)
         yield

@@ -13,7 +13,7 @@ from netrev.findings.evidence.need import Certainty
 from netrev.findings.handovers import dropped_notices  # fmt: skip
 from netrev.findings.hangs import missing_cases, needs_elsewhere, wait_graph  # fmt: skip
 from netrev.findings.http import requests as http_requests  # fmt: skip
-from netrev.findings.locks import conditions, group_counts, groups, new_readers  # fmt: skip
+from netrev.findings.locks import group_counts, groups, new_readers, sync_conditions  # fmt: skip
 from netrev.findings.source import functions as source_functions
 from netrev.findings.source import locks
 
@@ -46,7 +46,7 @@ def stacks(*calls: SourceCall) -> Any:
     ],
 )
 def test_conditions_in_the_body_of_a_loop_that_has_none(lines: list[str], found: list[str]) -> None:
-    assert conditions.conditions_of(tuple(lines), 1) == found
+    assert sync_conditions.conditions_of(tuple(lines), 1) == found
 
 
 @pytest.mark.parametrize(
@@ -57,8 +57,8 @@ def test_several_goroutines_have_waited_for_a_condition(waits: str, have: bool, 
     of: dict[str, list[Any]] = {}
     for wait in waits.split():
         of.setdefault(wait[0], []).append(Made(name=wait[0], objects=wait[1]))
-    monkeypatch.setattr(conditions, "waits_of", lambda recording: Made(of=of))
-    assert conditions.have_waited(cast(Any, None), cast(Any, Made(objects="a"))) is have
+    monkeypatch.setattr(sync_conditions, "waits_of", lambda recording: Made(of=of))
+    assert sync_conditions.have_waited(cast(Any, None), cast(Any, Made(objects="a"))) is have
 
 
 @pytest.mark.parametrize(

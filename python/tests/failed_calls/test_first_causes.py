@@ -7,8 +7,8 @@ import pytest
 
 from netrev.findings.causes import first_words
 from netrev.findings.causes.tables import hangs_table
-from netrev.recording.step_changes import RecordedChanges
 from netrev.recording.recording import Recording
+from netrev.recording.step_changes import RecordedChanges
 from netrev.run import changes as modelled_changes
 from netrev.run import changes as printed_changes
 from tests.suspects.test_suspects import OPEN

@@ -17,9 +17,9 @@ from netrev_go import cli, doctor, go_test, go_test_results, options
 from netrev_go.go_command import outputs, status
 from netrev_go.go_command.toolchain import RecorderError
 from netrev_go.go_test_results import Recordings
-from netrev_go.log import lines
-from netrev_go.steps import goroutine_lines
-from netrev_go.steps.goroutine_lines import Everybody
+from netrev_go.log import source_lines
+from netrev_go.steps import goroutine_records
+from netrev_go.steps.goroutine_records import Everybody
 
 from .test_go_line_reader import elf
 
@@ -106,7 +106,7 @@ def test_exit_statuses() -> None:
     ],
 )  # fmt: skip
 def test_waits_that_last_are_kept_before_a_quarter_of_others(waits: str, most: int, kept: str) -> None:
-    chosen = goroutine_lines.newest([wait == "w" for wait in waits], most)
+    chosen = goroutine_records.newest([wait == "w" for wait in waits], most)
     assert "".join("1" if is_kept else "0" for is_kept in chosen) == kept
 
 
@@ -114,7 +114,7 @@ def test_waits_that_last_are_kept_before_a_quarter_of_others(waits: str, most: i
 def test_goroutines_with_steps_and_waiting_ones_are_kept_first(goid: int, is_kept: bool) -> None:
     """Goroutine 1 has steps, and 2 waits. 3 and 4 have ended. Of four kept goroutines, at most one may have ended. So
     3, the older, isn't kept."""
-    park = Made(goroutine=2, stack=7, by=0, last=goroutine_lines.UNENDED)
+    park = Made(goroutine=2, stack=7, by=0, last=goroutine_records.UNENDED)
     past = [Made(goroutine=goid, stack=8, by=0, last=5) for goid in (3, 4)]
     own = cast(
         Any,
@@ -133,7 +133,7 @@ def test_goroutines_with_steps_and_waiting_ones_are_kept_first(goid: int, is_kep
     ],
 )  # fmt: skip
 def test_files_of_go_that_the_overlay_replaces_have_their_names(file: str, name: str) -> None:
-    assert lines.replaced_file(file) == name
+    assert source_lines.replaced_file(file) == name
 
 
 @pytest.mark.parametrize("is_compiled, cell", [(True, "yes"), (False, "no")])
@@ -267,7 +267,7 @@ def test_only_the_log_of_a_process_is_still_written(
 def test_how_far_a_program_s_code_is_moved(tmp_path: Path, size: int, moved: int | None) -> None:
     program = tmp_path / "program"
     program.write_bytes(elf(size, 0x400))
-    assert lines.shift(program, 0x1000) == moved
+    assert source_lines.shift(program, 0x1000) == moved
 
 
 def test_a_folder_without_room_for_recordings_is_refused() -> None:

@@ -16,10 +16,10 @@ import pytest
 from dev.fuzz.generators.logs import binary
 from netrev_go.go_command.running import log_of_process
 from netrev_go.go_command.toolchain import RecorderError
-from netrev_go.log.lines import OF_GO, OF_THE_PROGRAM, Calls, LineCall
 from netrev_go.log.logfile import HEADER_BYTES, Header, copy_of, log_of, read_log
 from netrev_go.log.notes import ARMED, PARKED
 from netrev_go.log.points import Point, PointKind
+from netrev_go.log.source_lines import OF_GO, OF_THE_PROGRAM, Calls, LineCall
 from netrev_go.log.times import seconds
 from netrev_go.options import check, of_a_process, parser
 from netrev_go.snapshots import LOCKS, READS, WRITES, SocketWait, Watch, waiting_in

@@ -75,10 +75,7 @@ def test_sentences_beside_those_of_a_need(monkeypatch: Patch) -> None:
 )  # fmt: skip
 def test_bytes_that_nobody_reads(change: dict[str, Any], count: int | None, monkeypatch: Patch) -> None:
     case = Made(**({"read": 2, "wrote_last": 7, "calls": [], "of_go": False, "known": True, "cut": False} | change))
-    case.calls = [
-        unread_bytes if unread_bytes[2] != 9 or unread_bytes[0] == CLOSE else (*unread_bytes[:2], 25, unread_bytes[3])
-        for unread_bytes in case.calls
-    ]
+    case.calls = [item if item[2] != 9 or item[0] == CLOSE else (*item[:2], 25, item[3]) for item in case.calls]
     wrote = Made(name="Write", socket=3, first=5, last=case.wrote_last, goroutine=1)
     calls = [wrote, *(Made(name=n, socket=s, last=last, first=begin) for n, s, last, begin in case.calls)]
     moved = {(3, "Write"): 5, (4, "Read"): case.read}
@@ -88,13 +85,10 @@ def test_bytes_that_nobody_reads(change: dict[str, Any], count: int | None, monk
     monkeypatch.setattr(unread_bytes, "is_cut", lambda recording, index, ends: case.cut)
     index = Made(
         recording=Made(lines=Made(peers={3: 4})),
-        by_socket={s: [unread_bytes for unread_bytes in calls if unread_bytes.socket == s] for s in (3, 4)},
+        by_socket={s: [item for item in calls if item.socket == s] for s in (3, 4)},
         last_use=lambda socket, until, names: wrote,
     )
-    found = [
-        (unread_bytes.write, unread_bytes.bytes, unread_bytes.socket)
-        for unread_bytes in unread_bytes.unread(cast(Any, index), 20)
-    ]
+    found = [(item.write, item.bytes, item.socket) for item in unread_bytes.unread(cast(Any, index), 20)]
     assert found == ([(wrote, count, 4)] if count else [])
 
 

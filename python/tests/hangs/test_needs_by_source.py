@@ -4,7 +4,7 @@ from pathlib import Path
 
 import pytest
 
-from netrev.findings.locks.conditions import single_signal, unsignalled
+from netrev.findings.locks.sync_conditions import single_signal, unsignalled
 from netrev.findings.pools.senders import later_giver
 from netrev.findings.pools.unclosed_channels import unclosed
 from netrev.findings.source.functions import is_same_variable, range_of

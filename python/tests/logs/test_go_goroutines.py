@@ -13,7 +13,7 @@ from netrev.recording import goroutines as where
 from netrev.recording.goroutines import GoGoroutine, LeftOut, Object
 from netrev.recording.where import SourceCall, SourceLines
 from netrev_go.go_command.toolchain import Go
-from netrev_go.log import lines
+from netrev_go.log import source_lines
 from netrev_go.log.goroutines import (  # fmt: skip
     BY_GO,
     GIVES,
@@ -40,11 +40,11 @@ from netrev_go.log.goroutines import (  # fmt: skip
     UseSpan,
     goroutines_of,
 )
-from netrev_go.log.lines import Calls, LineCall
 from netrev_go.log.points import Point, PointKind, PointStack
+from netrev_go.log.source_lines import Calls, LineCall
 from netrev_go.steps import conversion
 from netrev_go.steps.conversion import RecordingOptions, convert
-from netrev_go.steps.goroutine_lines import MOST, Everybody, kept, newest
+from netrev_go.steps.goroutine_records import MOST, Everybody, kept, newest
 from netrev_go.steps.where import write_where
 
 from .test_go_logs import opened
@@ -365,8 +365,8 @@ def test_a_program_of_a_hundred_thousand_goroutines_has_room(
     symbols = {699: ("main.work", "/x/main.go", 7), 499: ("main.main", "/x/main.go", 30)}
     go = Go("go", pathlib.Path("/nowhere"), "go1", "linux/amd64", "")
     with monkeypatch.context() as patch:
-        patch.setattr(lines, "shift", lambda *_, **__: 0)
-        patch.setattr(lines, "looked_up", lambda *_, **__: symbols)
+        patch.setattr(source_lines, "shift", lambda *_, **__: 0)
+        patch.setattr(source_lines, "looked_up", lambda *_, **__: symbols)
         patch.setattr(conversion, "report", lambda *_, **__: (True, []))
         convert(log, name, go, RecordingOptions())
     size = name.with_suffix(".where").stat().st_size

@@ -12,10 +12,10 @@ from dev.fuzz.generators.logs import STACKS, HolderRow, binary
 from netrev.recording import goroutines as where
 from netrev.recording.where import SourceLines
 from netrev_go.log.goroutines import MUTEX, READ_LOCK, Goroutines, LoggedMutex, goroutines_of
-from netrev_go.log.lines import Calls
 from netrev_go.log.logfile import HEADER_BYTES, HOLDER_BEGUN, HOLDER_BYTES, MOST_HOLDERS, MOST_STACKS, NotALogError
 from netrev_go.log.points import Log, LoggedHolder, PointKind, PointStack
-from netrev_go.steps.goroutine_lines import HELD
+from netrev_go.log.source_lines import Calls
+from netrev_go.steps.goroutine_records import HELD
 from netrev_go.steps.recording_builder import make
 
 from .test_go_goroutines import OF_GO, PROGRAM, STEPS, Points, written

@@ -26,15 +26,15 @@ from netrev_go import cli, doctor, go_test_results, recordings, recovery, releas
 from netrev_go.go_command import calls_of_go, run_folders, running, toolchain
 from netrev_go.go_command.status import ExitStatus
 from netrev_go.go_command.toolchain import RecorderError
-from netrev_go.log import goroutines, lines, logfile, sockets
+from netrev_go.log import goroutines, logfile, sockets, source_lines
 from netrev_go.log.goroutines import NEVER, Goroutines, LoggedChannel, LoggedPark, Passing, Used, UseSpan
-from netrev_go.log.lines import Calls, LineCall
 from netrev_go.log.logfile import HEADER_WORDS, MOST_HOLDERS, MOST_POINTS, MOST_STACKS, UNDER_WAY, Header, NotALogError
 from netrev_go.log.notes import REFERENCES, WAITING, Note
 from netrev_go.log.point_answers import can_answer
 from netrev_go.log.points import Log, Point, PointKind
 from netrev_go.log.socket_facts import OF_UNIX, Beside
 from netrev_go.log.sockets import BUFFER, FEW_BYTES, OUTPUT, LoggedSocket
+from netrev_go.log.source_lines import Calls, LineCall
 from netrev_go.steps import analysis, compare, conversion, forms, recording_builder, report
 
 from .test_go_logs import opened
@@ -220,7 +220,7 @@ def test_only_values_are_netrev_s_answers(monkeypatch: Patch) -> None:
     ],
 )  # fmt: skip
 def test_the_recorder_s_own_calls(function: str, of: str, is_ours: bool) -> None:
-    assert lines.is_ours(LineCall(function, "x.go", 1, of)) is is_ours
+    assert source_lines.is_ours(LineCall(function, "x.go", 1, of)) is is_ours
 
 
 @pytest.mark.parametrize(

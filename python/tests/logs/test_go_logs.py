@@ -10,10 +10,10 @@ import pytest
 
 from dev.fuzz.generators.logs import STACKS, binary, from_text, packed
 from netrev.recording.where import SourceLines
-from netrev_go.log import lines
-from netrev_go.log.lines import Calls, LineCall, SourceRoots, lines_of, looked_up
+from netrev_go.log import source_lines
 from netrev_go.log.logfile import HEADER_BYTES, NotALogError, read_log
 from netrev_go.log.points import Log, Point, PointKind
+from netrev_go.log.source_lines import Calls, LineCall, SourceRoots, lines_of, looked_up
 from netrev_go.steps import conversion
 from netrev_go.steps.conversion import RecordingOptions, convert
 from netrev_go.steps.recording_builder import NothingRecordedError, UnconvertibleError, make, write
@@ -66,8 +66,8 @@ def test_stored_logs_give_the_stored_lines(monkeypatch: pytest.MonkeyPatch) -> N
             here = pathlib.Path("/samples") / (name if name in ("hung", "hijacked") else "")
             sources = pathlib.Path(f"/usr/lib/go-{RELEASES.get(name, '1.27')}/src")
             with monkeypatch.context() as patch:
-                patch.setattr(lines, "shift", lambda *_, **__: 0)
-                patch.setattr(lines, "looked_up", lambda *_, **__: symbols)
+                patch.setattr(source_lines, "shift", lambda *_, **__: 0)
+                patch.setattr(source_lines, "looked_up", lambda *_, **__: symbols)
                 calls = lines_of(log, set(recording.stacks), pathlib.Path("none"), ["go"], SourceRoots(sources, here))
             made_file = pathlib.Path(folder, "made.where")
             write_where(made_file, recording.stacks, calls)
@@ -370,7 +370,7 @@ def test_the_next_line_has_the_commands_of_the_first_suspect() -> None:
 
 def test_addresses_become_lines(monkeypatch: pytest.MonkeyPatch) -> None:
     result = "main.f\n/p/main.go:14\n?\n?:0\n"
-    monkeypatch.setattr(lines.subprocess, "run", lambda *_, **__: stub(stdout=result))
+    monkeypatch.setattr(source_lines.subprocess, "run", lambda *_, **__: stub(stdout=result))
     assert looked_up(pathlib.Path("p"), ["go"], [5, 4], 0) == {4: ("main.f", "/p/main.go", 14)}
 
 

@@ -22,11 +22,11 @@ from netrev_go.log.goroutines import (  # fmt: skip
     LoggedDial,
     LoggedTimer,
 )
-from netrev_go.log.lines import OF_GO, OF_THE_PROGRAM, Calls, LineCall, is_ours, outside_the_runtime
 from netrev_go.log.points import PointKind
 from netrev_go.log.socket_facts import OF_IPV4
+from netrev_go.log.source_lines import OF_GO, OF_THE_PROGRAM, Calls, LineCall, is_ours, outside_the_runtime
 from netrev_go.log.tests_in_log import Ran
-from netrev_go.steps.goroutine_lines import CANCELLED, TIMED_OUT
+from netrev_go.steps.goroutine_records import CANCELLED, TIMED_OUT
 from netrev_go.steps.scopes_of_tests import goroutines_of
 
 from .test_go_goroutines import CHANNEL, GO_STATEMENT

@@ -20,8 +20,8 @@ import pytest
 
 from dev.fuzz.generators.random_logs import log_of, program_of
 from netrev_go.go_command.toolchain import Go
-from netrev_go.log.lines import SourceRoots, lines_of
 from netrev_go.log.points import Log, LoggedHolder, Point, PointKind, PointStack
+from netrev_go.log.source_lines import SourceRoots, lines_of
 from netrev_go.log.tests_in_log import Ran, Tests
 from netrev_go.steps import conversion, report
 from netrev_go.steps.conversion import ReadLog, RecordingOptions, converted
@@ -117,8 +117,8 @@ def looked_up(symbols: Symbols) -> Iterator[None]:
 
     def found(log: Log, used: set[int], *_: object) -> dict[int, conversion.Calls]:
         with pytest.MonkeyPatch.context() as patch:
-            patch.setattr("netrev_go.log.lines.shift", lambda *_, **__: 0)
-            patch.setattr("netrev_go.log.lines.looked_up", lambda *_, **__: symbols)
+            patch.setattr("netrev_go.log.source_lines.shift", lambda *_, **__: 0)
+            patch.setattr("netrev_go.log.source_lines.looked_up", lambda *_, **__: symbols)
             return lines_of(log, used, Path("none"), ["go"], SourceRoots(SOURCES, Path("/samples")))
 
     with pytest.MonkeyPatch.context() as patch:

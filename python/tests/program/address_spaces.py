@@ -6,7 +6,7 @@ import resource
 import signal
 import subprocess
 
-from netrev.machine.debugger import SharedState, is_command, read_line
+from netrev.machine.debugger_model import SharedState, is_command, read_line
 
 from .support.sharing import NETREV, PATIENCE, Server, WrongResultError, expect, talk
 

@@ -19,14 +19,14 @@ from netrev.machine.observer import Observer
 from netrev.model.program import printed
 from netrev.text.contents import Contents
 from netrev.text.parser import read_text
-from netrev.text.vocabulary import CELLS, Of
+from netrev.text.vocabulary import CELLS, ObjectKind
 from netrev.text.writer import write_plain
 
 from .support.sharing import ROOT, expect
 from .upgrades import RECORDINGS, USAGE, ended, played
 
 SHORT = 300  # in recordings with at most this many steps, the cells are printed at each position
-MADE_BY = {Of.GOROUTINE: "spawn", Of.SOCKET: "sockopen", Of.DESCRIPTOR: "pollopen"}
+MADE_BY = {ObjectKind.GOROUTINE: "spawn", ObjectKind.SOCKET: "sockopen", ObjectKind.DESCRIPTOR: "pollopen"}
 
 READS = ROOT / "scripts/recordings/woken-by-an-event.jsonl"
 SHUT = ROOT / "examples/shut-write-side.jsonl"
@@ -63,11 +63,11 @@ REFUSED = (
 def cells_of(recording: Contents) -> list[str]:
     """The cells of all objects at the end, in the order of docs/reference/COMMANDS.md."""
     kinds = [step[0] for step in recording.steps]
-    counts = {of: kinds.count(kind) + (of is Of.GOROUTINE) for of, kind in MADE_BY.items()}
+    counts = {of: kinds.count(kind) + (of is ObjectKind.GOROUTINE) for of, kind in MADE_BY.items()}
     return [
-        cell.name if cell.of is Of.ALL else f"{cell.name} {number}"
+        cell.name if cell.of is ObjectKind.ALL else f"{cell.name} {number}"
         for cell in CELLS.values()
-        for number in range(1 if cell.of is Of.ALL else counts[cell.of])
+        for number in range(1 if cell.of is ObjectKind.ALL else counts[cell.of])
     ]
 
 

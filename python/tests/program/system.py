@@ -29,7 +29,7 @@ from pathlib import Path
 
 import pytest
 
-from netrev.machine.debugger import DebuggedRecording
+from netrev.machine.debugger_model import DebuggedRecording
 
 from .address_spaces import LOOKS, MEGABYTE, NO_MEMORY, ended, limit_memory, loads_in, play_memory, play_memory_of_serve
 from .support.callers import callers

@@ -2,13 +2,13 @@
 
 
 from netrev.session.commands import is_answered_here, whole_words
-from netrev.text.vocabulary import KINDS, Of
+from netrev.text.vocabulary import KINDS, ObjectKind
 from nrdb.prompt.completion import candidates
 
 
-def numbers(of: Of) -> list[str]:
+def numbers(of: ObjectKind) -> list[str]:
     """The numbers in use, different for each kind."""
-    return [{Of.GOROUTINE: "87", Of.SOCKET: "4", Of.DESCRIPTOR: "11"}[of]]
+    return [{ObjectKind.GOROUTINE: "87", ObjectKind.SOCKET: "4", ObjectKind.DESCRIPTOR: "11"}[of]]
 
 
 def test_subjects_of_steps_and_calls() -> None:

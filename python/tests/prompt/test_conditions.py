@@ -5,7 +5,7 @@ from pathlib import Path
 
 import pytest
 
-from netrev.session.conditions import Condition
+from netrev.session.mark_conditions import Condition
 from nrdb.web.shared_session import OF_THE_PAGE
 
 from .test_prompt_forms import Prompt

@@ -12,7 +12,7 @@ from netrev.connection.output import Table
 from netrev.messages import searches
 from netrev.recording.recording import Recording
 from netrev.session.session import Session, UsageError
-from netrev.text.vocabulary import Of
+from netrev.text.vocabulary import ObjectKind
 from netrev.timeline import page, page_data
 from netrev.timeline.cell_runs import Window
 from netrev.timeline.page_contents import MOST

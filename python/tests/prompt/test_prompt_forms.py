@@ -8,7 +8,7 @@ import pytest
 from netrev.recording.where import SourceCall
 from netrev.session.line_hints import hint
 from netrev.session.line_index import is_function
-from netrev.text.vocabulary import KINDS, Of
+from netrev.text.vocabulary import KINDS, ObjectKind
 from nrdb.prompt.answers import all_help, help_of
 from nrdb.prompt.completion import candidates, completions
 from tests.failed_calls.test_causes import in_the_folder_of_the_source
@@ -111,7 +111,7 @@ def test_help_has_nrdbs_own_forms() -> None:
 
 
 def test_numbers_are_asked_for_only_if_they_are_completed() -> None:
-    def numbers(_: Of) -> list[str]:
+    def numbers(_: ObjectKind) -> list[str]:
         raise AssertionError
 
     assert candidates(["goto"], numbers) == []

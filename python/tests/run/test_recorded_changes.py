@@ -18,7 +18,7 @@ from netrev.recording import step_changes as changed_lines
 from netrev.recording import step_changes as recorded_changes
 from netrev.recording.step_changes import IncompleteChangesError, RecordedChanges
 from netrev.system.interrupts import Interrupts, SearchInterruptedError
-from netrev.text.vocabulary import CELLS, Of
+from netrev.text.vocabulary import CELLS, ObjectKind
 from tests.support.examples import EXAMPLES
 from tests.support.stubs import raising
 
@@ -48,14 +48,16 @@ def test_values_are_those_that_prints_say_at_each_position(
     assert changes.length == len(worlds) - 1 and not changes.fault
     last = worlds[-1]
     counts = {
-        Of.GOROUTINE: len(last.goroutines) + 1,
-        Of.SOCKET: len(last.sockets) + 1,
-        Of.DESCRIPTOR: len(last.descs) + 1,
+        ObjectKind.GOROUTINE: len(last.goroutines) + 1,
+        ObjectKind.SOCKET: len(last.sockets) + 1,
+        ObjectKind.DESCRIPTOR: len(last.descs) + 1,
     }
     cells = [
         spelled
         for cell in CELLS.values()
-        for spelled in ([cell.name] if cell.of is Of.ALL else [f"{cell.name} {at}" for at in range(counts[cell.of])])
+        for spelled in (
+            [cell.name] if cell.of is ObjectKind.ALL else [f"{cell.name} {at}" for at in range(counts[cell.of])]
+        )
     ]
     for position, world in enumerate(worlds):
         assert changes.values(position, cells) == [look(world, f"print {cell}").split(" = ")[1] for cell in cells]

@@ -2,7 +2,7 @@
 
 
 from netrev.run.index import run_of
-from netrev.run.owners import NONE
+from netrev.run.step_owners import NONE
 from netrev.run.timers import timers_of
 from tests.suspects.test_suspects import OPEN, USED_AGAIN, Steps, recording_of
 

@@ -8,7 +8,7 @@ from dev.fuzz.generators.random_steps import Author
 from netrev.recording.recording import Recording
 from netrev.run.changes import PlayedSteps
 from netrev.run.index import run_of
-from netrev.run.owners import NONE
+from netrev.run.step_owners import NONE
 
 SEEDS = range(40)
 PARTS = 12

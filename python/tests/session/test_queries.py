@@ -42,7 +42,7 @@ class WithoutMemory(Scripted):
         return "fault 301 memory"
 
 
-class Joined(Scripted):
+class ServedSession(Scripted):
     asks_ahead = False
 
 
@@ -92,7 +92,7 @@ def test_no_more_together_than_a_pipe_has_room_for() -> None:
 
 
 def test_alone_in_a_session_that_others_move() -> None:
-    assert runs(Joined(), ["print 1", "print 2"]) == [["print 1"], ["print 2"]]
+    assert runs(ServedSession(), ["print 1", "print 2"]) == [["print 1"], ["print 2"]]
 
 
 def test_alone_as_long_as_a_mark_takes_lines() -> None:
@@ -141,7 +141,7 @@ def test_a_fault_is_asked_for_again() -> None:
 
 
 def test_each_query_is_sent_in_a_session_that_others_move() -> None:
-    netrev = Joined()
+    netrev = ServedSession()
     netrev.ask("print 1")
     netrev.ask_all(["print 1", "print 1"])
     assert netrev.sent == [["print 1"], ["print 1", "print 1"]]

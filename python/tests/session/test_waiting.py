@@ -12,7 +12,7 @@ from typing import Any
 
 import pytest
 
-from dev.fuzz.companion import visit
+from dev.fuzz.nrdb_sessions import visit
 from netrev.connection.output import JsonPrinter
 from netrev.connection.scout import Scout
 from netrev.connection.world import PositionValues

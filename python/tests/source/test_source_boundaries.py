@@ -10,7 +10,7 @@ import pytest
 
 from netrev.findings.causes import repeated_failures  # fmt: skip
 from netrev.findings.handovers import dropped_requests, ended_givers  # fmt: skip
-from netrev.findings.locks import conditions  # fmt: skip
+from netrev.findings.locks import sync_conditions  # fmt: skip
 from netrev.findings.pools import leaking_paths, senders, uncancelled_contexts  # fmt: skip
 from netrev.findings.source import package as package_source  # fmt: skip
 from netrev.recording.goroutines import GoGoroutine
@@ -103,20 +103,20 @@ def in_short(folder: Path, says: list[str]) -> list[str]:
 def test_who_changes_what_a_wait_s_loop_tests(
     tmp_path: Path, old: str, new: str, number: int, drops: list[str], alone: list[str], monkeypatch: Patch
 ) -> None:
-    monkeypatch.setattr(conditions, "waits_of", lambda recording: Made(of={}))
+    monkeypatch.setattr(sync_conditions, "waits_of", lambda recording: Made(of={}))
     recording, wait = at(tmp_path, QUEUE.replace(old, new, 1) if old else QUEUE, number)
-    assert in_short(tmp_path, conditions.unsignalled(recording, wait)) == drops
-    assert in_short(tmp_path, conditions.single_signal(recording, wait, 2)) == alone
-    assert conditions.single_signal(recording, wait, 1) == []
+    assert in_short(tmp_path, sync_conditions.unsignalled(recording, wait)) == drops
+    assert in_short(tmp_path, sync_conditions.single_signal(recording, wait, 2)) == alone
+    assert sync_conditions.single_signal(recording, wait, 1) == []
 
 
 def test_functions_of_the_package_wake_what_a_function_waits_for(tmp_path: Path) -> None:
     source = QUEUE.replace("func (q *queue) pop", "func pop").replace("\tp.closed", "\tp.none = 1\n\tp.closed")
     recording, wait = at(tmp_path, source, 5, "pop")
-    says = in_short(tmp_path, conditions.unsignalled(recording, wait))
+    says = in_short(tmp_path, sync_conditions.unsignalled(recording, wait))
     assert says == [*DROPS, "a.go:22 in (*pool).clear should have woken it: it changes closed"]
     recording, wait = at(tmp_path, source + source.replace("*pool", "*pond").partition("package main")[2], 5, "pop")
-    assert in_short(tmp_path, conditions.unsignalled(recording, wait)) == says
+    assert in_short(tmp_path, sync_conditions.unsignalled(recording, wait)) == says
 
 
 @pytest.mark.parametrize(
@@ -125,14 +125,14 @@ def test_functions_of_the_package_wake_what_a_function_waits_for(tmp_path: Path)
 def test_the_name_of_a_function_that_wakes_nobody(tmp_path: Path, head: str, name: str) -> None:
     source = QUEUE.replace("(q *queue) pop", "pop").replace("q.items[0] = 1", "").replace("(p *pool) clear", head)
     recording, wait = at(tmp_path, f"{source}\nfunc assembled(n int) int", 5, "pop")
-    says = in_short(tmp_path, conditions.unsignalled(recording, wait))
+    says = in_short(tmp_path, sync_conditions.unsignalled(recording, wait))
     assert says == [f"a.go:21 in {name} should have woken it: it changes closed"]
 
 
 @pytest.mark.parametrize("stack", [Stack((), None), Stack((SourceCall("main.f", "none.go", 5, OF_THE_PROGRAM),), None)])
 def test_nobody_is_named_without_the_source(stack: Stack) -> None:
     recording, wait = cast(Any, Made(lines=Made(written=float("inf")))), ObjectWait(Name(1), 5, None, "", stack)
-    assert conditions.unsignalled(recording, wait) == conditions.single_signal(recording, wait, 2) == []
+    assert sync_conditions.unsignalled(recording, wait) == sync_conditions.single_signal(recording, wait, 2) == []
 
 
 TABLE = """\
@@ -176,8 +176,8 @@ def test_a_signal_that_woke_another_goroutine(
         other_wait = wait._replace(name=Name(int(goroutine)), stack=Stack(calls, None))
         every.setdefault(goroutine, []).append(other_wait)
     every["9"] = [wait._replace(objects=(cast(Any, 3),), stack=Stack((wait.stack.calls[0]._replace(line=2),), None))]
-    monkeypatch.setattr(conditions, "waits_of", lambda recording: Made(of=every))
-    says = in_short(tmp_path, conditions.mistaken_signal(recording, wait))
+    monkeypatch.setattr(sync_conditions, "waits_of", lambda recording: Made(of=every))
+    says = in_short(tmp_path, sync_conditions.mistaken_signal(recording, wait))
     assert [other_wait.partition(" and Signal wakes only")[0] for other_wait in says] == expected
 
 

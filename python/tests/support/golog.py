@@ -8,8 +8,8 @@ import sys
 from dev.fuzz.generators.logs import to_text
 from netrev_go.go_command.line_reader import line_reader
 from netrev_go.go_command.toolchain import find_go
-from netrev_go.log.lines import looked_up
 from netrev_go.log.logfile import read_log
+from netrev_go.log.source_lines import looked_up
 from netrev_go.steps.conversion import program_of
 
 

@@ -34,20 +34,20 @@ PROBES = (
 )
 SMALL = (("netrev.AT_ONCE", 60), ("scout.JOURNAL", 5))
 Events = list[dict[str, Any]]
-Of = TypeVar("Of", bound=Netrev)
-Action = Callable[["Weather[Of]", Of], None]
+Connection = TypeVar("Connection", bound=Netrev)
+Action = Callable[["Weather[Connection]", Connection], None]
 
 
-class Weather(Generic[Of]):
+class Weather(Generic[Connection]):
     """Counts the points that all netrevs of a session reach. When `left` falls below 0, the action runs at that point."""
 
     def __init__(self, interrupts: Interrupts):
         self.interrupts = interrupts
         self.left: int | None = None
         self.count = 0
-        self.action: Action[Of] = nothing
+        self.action: Action[Connection] = nothing
 
-    def happens(self, netrev: Of) -> None:
+    def happens(self, netrev: Connection) -> None:
         """Called when a point is reached."""
         self.count += 1
         if self.left is not None:
@@ -57,7 +57,7 @@ class Weather(Generic[Of]):
                 self.action(self, netrev)
 
 
-def nothing(weather: Weather[Of], netrev: Of) -> None:
+def nothing(weather: Weather[Connection], netrev: Connection) -> None:
     """Does nothing."""
 
 
@@ -86,14 +86,14 @@ class Played(NamedTuple):
         self.session.looks().drop()
 
 
-class Disturbances(Generic[Of]):
+class Disturbances(Generic[Connection]):
     """Makes batches and the journal small, so that a session has many points."""
 
     def __init__(self, monkeypatch: pytest.MonkeyPatch) -> None:
         for name, size in SMALL:
             monkeypatch.setattr(f"netrev.connection.{name}", size)
 
-    def opened(self, weather: Weather[Of]) -> Of:
+    def opened(self, weather: Weather[Connection]) -> Connection:
         """A netrev that runs on the example, disturbed by `weather`."""
         raise NotImplementedError
 
@@ -106,10 +106,10 @@ class Disturbances(Generic[Of]):
 
     def begun(self) -> Played:
         """A session over the example, with a mark and a display."""
-        weather: Weather[Of] = Weather(Interrupts())
+        weather: Weather[Connection] = Weather(Interrupts())
         out = io.StringIO()
 
-        def opened() -> Of:
+        def opened() -> Connection:
             return self.opened(weather)
 
         session = Session(
@@ -136,7 +136,9 @@ class Disturbances(Generic[Of]):
         runs.end()
         return runs.weather.count - before, right
 
-    def disturbed(self, command: str, action: Action[Of], count: int) -> Iterator[tuple[int, Played, Events, bool]]:
+    def disturbed(
+        self, command: str, action: Action[Connection], count: int
+    ) -> Iterator[tuple[int, Played, Events, bool]]:
         """For each point of a command, yields what follows if this event happens there: the point, the session, the
         output, and whether the session continues."""
         for point in range(count):
@@ -154,7 +156,7 @@ class Disturbances(Generic[Of]):
                 yield point, runs, runs.told(), False
             runs.end()
 
-    def check(self, commands: Sequence[str], actions: Sequence[Action[Of]]) -> int:
+    def check(self, commands: Sequence[str], actions: Sequence[Action[Connection]]) -> int:
         """Checks that the output during and after these commands is right for each event at each point. Returns how
         many sessions ended."""
         given_up = 0

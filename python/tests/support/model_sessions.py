@@ -5,7 +5,7 @@ from collections.abc import Callable
 from pathlib import Path
 
 from netrev.connection.netrev import Netrev
-from netrev.machine.debugger import DebuggedRecording
+from netrev.machine.debugger_model import DebuggedRecording
 from netrev.machine.observer import Observer
 from netrev.model.changes import changes
 from netrev.model.program import replay

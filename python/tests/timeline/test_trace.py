@@ -18,8 +18,8 @@ from netrev.connection.scout import Scout
 from netrev.findings.suspects.ranking import all_suspects_of
 from netrev.machine.machine import World
 from netrev.machine.steps import apply
-from netrev.recording.step_changes import RecordedChanges
 from netrev.recording.recording import Recording
+from netrev.recording.step_changes import RecordedChanges
 from netrev.run.index import run_of
 from netrev.text.writer import write_plain
 from netrev.timeline.other_trace_events import beside

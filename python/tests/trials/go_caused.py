@@ -17,8 +17,8 @@ from netrev.findings.suspects.ranking import all_suspects_of
 from netrev.recording.recording import Recording
 from netrev_go.go_command.line_reader import line_reader
 from netrev_go.go_command.toolchain import Go, find_go
-from netrev_go.log.lines import SourceRoots, lines_of
 from netrev_go.log.logfile import read_log
+from netrev_go.log.source_lines import SourceRoots, lines_of
 from netrev_go.release_check import ready
 from netrev_go.steps.conversion import everybody_of, program_of
 from netrev_go.steps.recording_builder import make, write

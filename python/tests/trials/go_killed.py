@@ -19,8 +19,8 @@ from pathlib import Path
 from dev.recorder.fetching import commands_of
 from netrev.system.program_path import netrev_program
 from netrev_go.steps.analysis import check
-from tests.support.go_stand_in import wait_until
 from tests.real_go.go_programs import TOOL, program
+from tests.support.go_stand_in import wait_until
 
 SIGNALS = (signal.SIGQUIT, signal.SIGHUP, signal.SIGTERM, signal.SIGKILL)
 MAIN = program(

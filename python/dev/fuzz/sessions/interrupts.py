@@ -12,7 +12,7 @@ from typing import TypeVar
 CTRL_C = {signal.SIGINT}
 MEANWHILE = "netrev is stopped"  # the name of threads that may send Ctrl-C
 
-Of = TypeVar("Of")
+Result = TypeVar("Result")
 
 
 def pressed() -> None:
@@ -38,7 +38,7 @@ def confined() -> Iterator[None]:
         signal.signal(signal.SIGINT, before)
 
 
-def heard(run: Callable[[], Of]) -> Of:
+def heard(run: Callable[[], Result]) -> Result:
     """The result of a call that a Ctrl-C may interrupt, for use within `confined`. It isn't a context manager, because
     the exception of a Ctrl-C could be raised in the manager's own code before it blocks the signal again."""
     try:

@@ -5,7 +5,7 @@ from contextlib import contextmanager
 from pathlib import Path
 
 from netrev.connection.arriving_changes import ArrivingChanges
-from netrev.connection.netrev import Own
+from netrev.connection.netrev import NetrevProcess
 from netrev.connection.output import Printer
 from netrev.connection.scout import Scout
 from netrev.recording.recording import Recording
@@ -19,8 +19,8 @@ def session_over(program: str, path: Path, printer: Printer) -> Iterator[Session
     """A session over a recording that netrev accepts."""
     interrupts = Interrupts()
 
-    def netrev() -> Own:
-        return Own(program, str(path), interrupts)
+    def netrev() -> NetrevProcess:
+        return NetrevProcess(program, str(path), interrupts)
 
     recorded = ArrivingChanges(program, str(path), interrupts, printer.note)
     session = Session(

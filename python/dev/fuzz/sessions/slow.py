@@ -5,7 +5,7 @@ import threading
 import time
 from collections.abc import Callable
 
-from netrev.connection.netrev import Own
+from netrev.connection.netrev import NetrevProcess
 from netrev.system.interrupts import Interrupts
 
 from .interrupts import MEANWHILE, undisturbed
@@ -13,7 +13,7 @@ from .interrupts import MEANWHILE, undisturbed
 MOMENT = 0.002  # seconds
 
 
-class Slow(Own):
+class Slow(NetrevProcess):
     """A netrev that can be stopped while events happen. `happens` is called before lines are sent, and before each
     line that is read."""
 

@@ -12,7 +12,7 @@ from netrev.machine.machine import World
 from netrev.model.session import ModelSession
 from netrev.recording.cell_meanings import LockWord, in_words
 from netrev.text.contents import Step
-from netrev.text.vocabulary import CELLS, Of, cell_of
+from netrev.text.vocabulary import CELLS, ObjectKind, cell_of
 
 Event = Mapping[str, Any]
 Rows = Sequence[Mapping[str, Any]]
@@ -221,10 +221,10 @@ class Judge:
         changed."""
         shown = sorted((row["cell"], row["old"], row["new"]) for row in rows)
         numbers = {
-            Of.ALL: [""],
-            Of.GOROUTINE: [f" {number}" for number in self.numbers_of("gor")],
-            Of.SOCKET: [f" {number}" for number in self.numbers_of("lock")],
-            Of.DESCRIPTOR: [f" {number}" for number in self.numbers_of("fdseq")],
+            ObjectKind.ALL: [""],
+            ObjectKind.GOROUTINE: [f" {number}" for number in self.numbers_of("gor")],
+            ObjectKind.SOCKET: [f" {number}" for number in self.numbers_of("lock")],
+            ObjectKind.DESCRIPTOR: [f" {number}" for number in self.numbers_of("fdseq")],
         }
         cells = [f"{cell.name}{number}" for cell in CELLS.values() for number in numbers[cell.of]]
         both = [(cell, self.value(cell, self.position - 1), self.value(cell)) for cell in cells]

@@ -17,10 +17,10 @@ from netrev.findings.handovers.own_readers import of_own_reader
 from netrev.findings.http.bodies_left_open import open_bodies
 from netrev.findings.http.held_answers import held_back
 from netrev.findings.http.rpc_calls import dropped_by_rpc
-from netrev.findings.locks.conditions import single_signal, unsignalled
 from netrev.findings.locks.groups import Groups
 from netrev.findings.locks.mutex_holders import MutexHolders
 from netrev.findings.locks.needs_of_mutexes import NeedsOfMutexes
+from netrev.findings.locks.sync_conditions import single_signal, unsignalled
 from netrev.findings.pools.later_closes import closed_later
 from netrev.findings.pools.made_channels import without_receiver
 from netrev.findings.pools.stopped_timers import of_timers, timers_of_select

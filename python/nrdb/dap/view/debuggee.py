@@ -7,7 +7,7 @@ from pathlib import Path
 from netrev.connection.arriving_changes import ArrivingChanges
 from netrev.connection.collected_output import Collecting
 from netrev.connection.errors import MismatchedRecordingError
-from netrev.connection.netrev import Joined, Netrev, Own
+from netrev.connection.netrev import Netrev, NetrevProcess, ServedSession
 from netrev.connection.scout import Scout
 from netrev.connection.shapes import POSITION
 from netrev.messages import session as messages
@@ -17,7 +17,7 @@ from netrev.run.index import run_of
 from netrev.session.refusals import explained, fault_of
 from netrev.session.session import Session
 from netrev.system.interrupts import Interrupts
-from netrev.text.vocabulary import Of
+from netrev.text.vocabulary import ObjectKind
 from nrdb.prompt.answers import ANSWERS
 
 from .messages import UnanswerableError
@@ -84,7 +84,7 @@ class Debuggee:
         except (OSError, RuntimeError, ValueError):  # (the text isn't a path, or the path's links form a loop)
             return False
 
-    def numbers(self, of: Of) -> list[str]:
+    def numbers(self, of: ObjectKind) -> list[str]:
         """The numbers of the objects that exist at the position."""
         return [str(number) for number in range(self.session.world().count(of))]
 
@@ -94,7 +94,7 @@ class Debuggee:
 
     def others_moved(self) -> int | None:
         """The new position, if another user has moved a shared session; None otherwise."""
-        if not isinstance(self.session.netrev, Joined):
+        if not isinstance(self.session.netrev, ServedSession):
             return None
         now = self.session.current_position().position
         if now == self.position:
@@ -114,7 +114,9 @@ def debuggee(
         recording = Recording.read(path)
         if address and (fault := fault_of(program, path)):
             raise NotARecordingError(messages.NOT_A_RECORDING.format(path=path, fault=fault))
-        netrev: Netrev = Joined(address, interrupts, lambda: None) if address else Own(program, path, interrupts)
+        netrev: Netrev = (
+            ServedSession(address, interrupts, lambda: None) if address else NetrevProcess(program, path, interrupts)
+        )
     except OSError as error:
         named = error.filename or (":".join(map(str, address)) if address else path)
         raise UnanswerableError(f"{named}: {error.strerror or error}") from None
@@ -132,7 +134,7 @@ def begun(
     program: str, path: str, recording: Recording, netrev: Netrev, printer: Collecting, interrupts: Interrupts
 ) -> Iterator[Session]:
     """Context with a session that has begun. The session is closed when the context ends."""
-    scout = Scout(lambda: Own(program, path, interrupts))
+    scout = Scout(lambda: NetrevProcess(program, path, interrupts))
     recording.changes = recorded = ArrivingChanges(program, path, interrupts, printer.note)
     recording.suspects = suspects = SuspectList(program, path, interrupts)
     try:

@@ -11,7 +11,7 @@ from netrev.recording.waits import Name, waits_of
 from netrev.recording.where import OF_THE_PROGRAM, SourceCall, Stack
 from netrev.run.index import run_of
 from netrev.text.plain import plain
-from netrev.text.vocabulary import CELLS, KINDS, Of, cell_of
+from netrev.text.vocabulary import CELLS, KINDS, ObjectKind, cell_of
 from netrev.views.goroutine_stacks import stack_of
 
 from .debuggee import Debuggee, Maker
@@ -52,27 +52,27 @@ class Frame:
 class Cells:
     """The cells of an object: the whole machine, a goroutine, a socket or a descriptor."""
 
-    of: Of
+    of: ObjectKind
     number: int = 0
 
     def names(self) -> list[str]:
         """The names of the cells, as commands spell them."""
         return [
-            cell.name if self.of is Of.ALL else f"{cell.name} {self.number}"
+            cell.name if self.of is ObjectKind.ALL else f"{cell.name} {self.number}"
             for cell in CELLS.values()
             if cell.of is self.of
         ]
 
     @property
     def title(self) -> str:
-        return "machine" if self.of is Of.ALL else f"{self.of.value} {self.number}"
+        return "machine" if self.of is ObjectKind.ALL else f"{self.of.value} {self.number}"
 
 
 @dataclass(frozen=True)
 class Every:
     """All objects of a kind."""
 
-    of: Of
+    of: ObjectKind
 
 
 Thing = Frame | Cells | Every
@@ -123,7 +123,7 @@ class Looks:
         network with the clock. The name of a goroutine's thread says what the goroutine does and, if known, its
         function and line in the program."""
         world, recording = self._world, self._debuggee.recording
-        statuses = world.of_each(range(world.count(Of.GOROUTINE)), "gor")
+        statuses = world.of_each(range(world.count(ObjectKind.GOROUTINE)), "gor")
         goroutines = [goroutine for goroutine, (status,) in statuses.items() if status != "gone"]
         waits = {wait.name: wait for wait in waits_of(recording).all_at(self._debuggee.position)}
         stacks = self._stacks(goroutines) if recording.lines else {}
@@ -214,11 +214,12 @@ class Looks:
         thing = self.handles.take(frame)
         if not isinstance(thing, Frame):
             raise UnanswerableError(texts.NOT_A_FRAME)
-        own = [] if thing.maker is None else [Cells(Of.GOROUTINE, thing.maker)]
+        own = [] if thing.maker is None else [Cells(ObjectKind.GOROUTINE, thing.maker)]
         near = [*own, *self._about(thing)]
-        scopes = [(cells.title, self.handles.give(cells), False) for cells in (*near, Cells(Of.ALL))]
+        scopes = [(cells.title, self.handles.give(cells), False) for cells in (*near, Cells(ObjectKind.ALL))]
         scopes += [
-            (f"all {of.value}s", self.handles.give(Every(of)), True) for of in (Of.SOCKET, Of.DESCRIPTOR, Of.GOROUTINE)
+            (f"all {of.value}s", self.handles.give(Every(of)), True)
+            for of in (ObjectKind.SOCKET, ObjectKind.DESCRIPTOR, ObjectKind.GOROUTINE)
         ]
         return [{"name": name, "variablesReference": number, "expensive": dear} for name, number, dear in scopes]
 
@@ -239,7 +240,7 @@ class Looks:
             socket = sockets.get(descriptor)
         elif descriptor is None and socket is not None:
             descriptor = next((candidate for candidate, its in sockets.items() if its == socket), None)
-        named = [(Of.SOCKET, socket), (Of.DESCRIPTOR, descriptor)]
+        named = [(ObjectKind.SOCKET, socket), (ObjectKind.DESCRIPTOR, descriptor)]
         return [Cells(of, number) for of, number in named if number is not None]
 
     def variables(self, reference: int) -> list[Body]:
@@ -251,12 +252,12 @@ class Looks:
             return self._every(thing.of)
         raise UnanswerableError(texts.NO_VARIABLE.format(reference=reference))
 
-    def _every(self, of: Of) -> list[Body]:
+    def _every(self, of: ObjectKind) -> list[Body]:
         """All objects of a kind, each with its cells inside. A goroutine has only one cell."""
         world = self._world
-        if of is Of.GOROUTINE:
+        if of is ObjectKind.GOROUTINE:
             return self.cells([f"gor {number}" for number in range(world.count(of))])
-        if of is Of.SOCKET:
+        if of is ObjectKind.SOCKET:
             rows = [(number, f"lock {number}") for number in range(world.count(of))]
         else:
             rows = [(number, f"info {number}") for number in world.sockets_of_open()]

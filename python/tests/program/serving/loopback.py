@@ -29,8 +29,13 @@ from pathlib import Path
 
 import pytest
 
-from netrev.machine.debugger import FULL, DebuggedRecording, is_command, read_line  # (Python needs this to find nrdb)
-from netrev.text.vocabulary import CELLS, DUMPS, KINDS, MOST, Of
+from netrev.machine.debugger_model import (  # (Python needs this to find nrdb)
+    FULL,
+    DebuggedRecording,
+    is_command,
+    read_line,
+)
+from netrev.text.vocabulary import CELLS, DUMPS, KINDS, MOST, ObjectKind
 from tests.program.support.history import Search, SearchLimitError
 from tests.program.support.sharing import (
     NETREV,
@@ -60,8 +65,8 @@ PARKED = """{"netrev":1,"gor":4,"sock":2,"desc":2,"buf":16}
 ["sysread",0,0,8]
 ["rwunlock",0,0,"r"]
 """
-SHOWN = [cell.name for cell in CELLS.values() if cell.of is Of.ALL]
-SHOWN += [f"{cell.name} {number}" for cell in CELLS.values() if cell.of is not Of.ALL for number in (0, 1)]
+SHOWN = [cell.name for cell in CELLS.values() if cell.of is ObjectKind.ALL]
+SHOWN += [f"{cell.name} {number}" for cell in CELLS.values() if cell.of is not ObjectKind.ALL for number in (0, 1)]
 LOOKS = [f"print {cell}" for cell in SHOWN] + [f"dump {dump} {number}" for dump in DUMPS for number in (0, 1)]
 NONSENSE = [b"frob", b"stepi 0", b"print", b"watch clock 1", b"quit now", b"break @0", b"\tstepi", b"stepi 4294967296"]
 NOTHING = [b"", b"   ", b"\r"]

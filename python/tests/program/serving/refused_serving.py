@@ -26,7 +26,7 @@ from typing import NamedTuple
 
 import pytest
 
-from netrev.machine.debugger import is_command, read_line
+from netrev.machine.debugger_model import is_command, read_line
 from tests.program.support.sharing import Server, WrongResultError, expect, library_of
 
 from .loopback import PARKED

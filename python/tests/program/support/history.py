@@ -24,7 +24,7 @@ from itertools import accumulate
 from typing import Any, NamedTuple
 
 from netrev.errors import NetrevError
-from netrev.machine.debugger import (
+from netrev.machine.debugger_model import (
     CHECKPOINTS_FULL,
     FULL,
     MARKS_FULL,

@@ -18,7 +18,7 @@ from itertools import count
 from pathlib import Path
 
 from netrev.errors import NetrevError
-from netrev.machine.debugger import FULL, Reply, Request, is_command, read_line
+from netrev.machine.debugger_model import FULL, Reply, Request, is_command, read_line
 
 ROOT = Path(__file__).resolve().parents[4]
 NETREV = os.path.abspath(os.environ.get("NETREV", ROOT / "crates/netrev/out/netrev"))

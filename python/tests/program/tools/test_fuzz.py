@@ -13,9 +13,9 @@ import pytest
 
 from dev.fuzz.__main__ import main, play, seeds
 from dev.fuzz.cases import make
-from dev.fuzz.companion import played, visit
 from dev.fuzz.counts import Met
 from dev.fuzz.kept_cases import kept
+from dev.fuzz.nrdb_sessions import played, visit
 from dev.fuzz.runs import difference
 from dev.fuzz.sessions.interrupts import confined, heard, nothing, pressed
 from dev.fuzz.sessions.slow import Slow
@@ -69,10 +69,10 @@ PLANTED: dict[str, tuple[str, Callable[[pytest.MonkeyPatch], None]]] = {
         lambda patch: patch.setitem(cast(Any, steps.OF_KIND), "decref", decref_with_another_reason),
     ),
     "a mark that stays": ("17", lambda patch: patch.setattr(polling, "event", error_stays)),
-    "a command line shorter by one": ("4", lambda patch: patch.setattr("netrev.machine.debugger.MOST_LINE", 255)),
+    "a command line shorter by one": ("4", lambda patch: patch.setattr("netrev.machine.debugger_model.MOST_LINE", 255)),
     "a temporary break that stays": (
         "127",
-        lambda patch: patch.setattr("netrev.machine.debugger.left_standing", lambda marks, hitting: marks),
+        lambda patch: patch.setattr("netrev.machine.debugger_model.left_standing", lambda marks, hitting: marks),
     ),
     "answers compared by their sort": ("100", lambda patch: patch.setattr(replaying, "differs", sorts_compared)),
     "a shut socket that takes bytes": (

@@ -13,7 +13,7 @@ import pytest
 from netrev.recording.recording import Recording
 from netrev_go import go_test_results
 from netrev_go.cli import ExitStatus
-from netrev_go.log.lines import OF_THE_PROGRAM, Calls, LineCall
+from netrev_go.log.source_lines import OF_THE_PROGRAM, Calls, LineCall
 from netrev_go.steps import conversion, report
 from netrev_go.steps.conversion import Conversion
 from tests.go_command import test_go_tests

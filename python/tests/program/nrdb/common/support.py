@@ -9,7 +9,7 @@ import sys
 from functools import lru_cache
 
 from netrev.recording.recording import Recording
-from netrev.text.vocabulary import CELLS, DUMPS, Of
+from netrev.text.vocabulary import CELLS, DUMPS, ObjectKind
 from nrdb.cli import main
 from tests.program.support.sharing import NETREV, ROOT
 from tests.support.examples import ALL
@@ -20,7 +20,7 @@ NRDB = str(ROOT / "nrdb")
 PATIENCE = 60  # seconds
 BESIDE = ("changed", "timer")  # the topics of the tables that follow each move
 
-LIMIT_OF = {Of.GOROUTINE: "gor", Of.SOCKET: "sock", Of.DESCRIPTOR: "desc"}
+LIMIT_OF = {ObjectKind.GOROUTINE: "gor", ObjectKind.SOCKET: "sock", ObjectKind.DESCRIPTOR: "desc"}
 
 
 def nrdb(*words, lines=(), status=0):
@@ -78,9 +78,9 @@ class Shown:
     def __init__(self, path):
         self.path, self.recording = path, Recording.read(path)
         limits = self.recording.limits
-        self.cells = [cell.name for cell in CELLS.values() if cell.of is Of.ALL]
+        self.cells = [cell.name for cell in CELLS.values() if cell.of is ObjectKind.ALL]
         for cell in CELLS.values():
-            if cell.of is not Of.ALL:
+            if cell.of is not ObjectKind.ALL:
                 self.cells += [f"{cell.name} {number}" for number in range(limits[LIMIT_OF[cell.of]])]
         self.queues = [f"{dump} {number}" for dump in DUMPS if dump not in CELLS for number in range(limits["sock"])]
         self.seen = {}

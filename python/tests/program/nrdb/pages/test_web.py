@@ -9,7 +9,7 @@ from pathlib import Path
 
 from tests.program.nrdb.common.support import EXAMPLES, nrdb, shown
 from tests.program.nrdb.common.web_support import Web
-from tests.program.nrdb.sessions.test_join import Joined, replies
+from tests.program.nrdb.sessions.test_join import ServedSession, replies
 from tests.program.support.sharing import NETREV, PORTS, Server
 from tests.support.web_client import Listener
 
@@ -37,7 +37,9 @@ def children(process: int) -> list[int]:
 
 def test_two_listen_and_one_is_at_a_terminal() -> None:
     with serving(2) as server, Web("--join", f"127.0.0.1:{server.port}", LOST) as web:
-        with Listener(web.address) as item, Listener(web.address) as other, Joined(server.port + 1, LOST) as person:
+        with Listener(web.address) as item, Listener(web.address) as other, ServedSession(
+            server.port + 1, LOST
+        ) as person:
             assert [item.you["who"], other.you["who"]] == ["browser 1", "browser 2"]
             assert item.said("continue")[:2] == ["at 22 end", "| last step 22: parkcommit 0   (end)"]
             assert replies(person.ask("info position")) == ["at 22 of 22 forward"]

@@ -11,7 +11,7 @@ import pytest
 from tests.program.nrdb.common.devtools import Chromium, Page
 from tests.program.nrdb.common.support import EXAMPLES
 from tests.program.nrdb.common.web_support import Web
-from tests.program.nrdb.sessions.test_join import Joined, replies
+from tests.program.nrdb.sessions.test_join import ServedSession, replies
 from tests.program.support.sharing import Server
 
 pytestmark = pytest.mark.together
@@ -69,7 +69,7 @@ def test_two_browsers_and_a_terminal_in_one_session(chromium: Chromium) -> None:
     with Server(LOST, fronts=2, connections=0) as server:
         server.call(0).close()
         server.call(1).close()
-        with Web("--join", f"127.0.0.1:{server.port}", LOST) as web, Joined(server.port + 1, LOST) as person:
+        with Web("--join", f"127.0.0.1:{server.port}", LOST) as web, ServedSession(server.port + 1, LOST) as person:
             item, other = chromium.opened(web), chromium.opened(web)
             item.until("document.getElementById('here').innerText === 'with browser 2'")
             item.types("continue")

@@ -13,7 +13,7 @@ FIRST = EXAMPLES / "first.jsonl"
 DONE = "cell clock: the time, in nanoseconds"
 
 
-class Joined:
+class ServedSession:
     """nrdb at a front: it gets one line at a time, and prints lines of JSON."""
 
     def __init__(self, port, *words):
@@ -82,7 +82,7 @@ def serving(fronts=1, left=1):
 def test_a_session_is_shared():
     with serving(fronts=2) as server:
         other = Other(server.call(1))
-        with Joined(server.port, FIRST) as person:
+        with ServedSession(server.port, FIRST) as person:
             assert replies(person.ask("stepi 6")) == ["at 6"]
             assert other.ask("info position") == "at 6 of 10 forward"
             assert other.ask("watch lock 0") == "mark 1"
@@ -104,7 +104,7 @@ def test_a_session_is_shared():
 
 def test_without_the_recording_replies_are_all():
     with serving() as server:
-        with Joined(server.port) as person:
+        with ServedSession(server.port) as person:
             result = person.ask("stepi 6", "history lock 0", "info goroutines", "where")
             assert replies(result) == ["at 6"]
             notes = [event["text"] for event in result if event["event"] == "note"]

@@ -1,4 +1,4 @@
-"""Measures how long nrdb takes to answer, on recordings of the shape `mix`:  python3 python dev.bench.companion [STEPS ..]
+"""Measures how long nrdb takes to answer, on recordings of the shape `mix`:  python3 python dev.bench.nrdb_answers [STEPS ..]
 
 The first `goto` goes to three quarters of the recording, and waits until the changes of all earlier steps are read. The
 other lines follow. A line's time is measured from sending it to its output. NETREV names the program.

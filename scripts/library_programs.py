@@ -1,5 +1,5 @@
 #!/usr/bin/env python3
-"""Tries the programs of docs/reference/LIBRARY.md:  scripts/using.py [NAME ..]
+"""Tries the programs of docs/reference/LIBRARY.md:  scripts/library_programs.py [NAME ..]
 
 Makes a repository in a separate folder, from copies of the crates and of the page's programs, and runs each program, or those with these
 names, with `rt try` over examples/first.jsonl. The status is 1 if a program prints something other than what the page shows. Nothing is proved,

@@ -31,8 +31,8 @@ from netrev_go.log.goroutines import (  # fmt: skip
     Used,
     UseSpan,
 )
-from netrev_go.log.lines import OF_GO, OF_THE_PROGRAM, Calls
 from netrev_go.log.socket_facts import address_words
+from netrev_go.log.source_lines import OF_GO, OF_THE_PROGRAM, Calls
 
 MOST = 2**16  # the greatest number of entries kept in each list: waits, uses of channels, timers, goroutines
 OTHERS = 4  # at most a quarter of them have ended when the log ends
