@@ -4,6 +4,8 @@ import json
 import re
 from pathlib import Path
 
+import pytest
+
 from netrev.recording.answers import answer_text
 from netrev.recording.recording import Recording, Step
 
@@ -43,33 +45,33 @@ def test_without_netrev():
     assert re.search(r"; `make .*look FILE=\S+/first.jsonl` opens the recording without proofs\n", output)
 
 
-def test_the_machines_answer_is_told(folder):
-    kinds = set()
-    file = folder / "other.jsonl"
-    for recording, step in answered_steps():
-        kinds.add(step.kind)
+def answered_steps(recording: Recording) -> list[Step]:
+    """The first and the last step of each kind with each of its answers."""
+    chosen: dict[tuple[str, str], list[Step]] = {}
+    for step in map(recording.step, range(1, recording.length + 1)):
+        chosen.setdefault((step.kind, answer_text(step.answer)), [step, step])[1] = step
+    return [step for first, last in chosen.values() for step in ([first] if first is last else [first, last])]
+
+
+ANSWERED = {
+    path.stem: recording for path in recordings() if (recording := Recording.read(str(path))).has_answers
+}  # of version 2
+
+
+@pytest.mark.parametrize("name", ANSWERED)
+def test_the_machines_answer_is_told(folder: Path, name: str) -> None:
+    recording, file = ANSWERED[name], folder / "other.jsonl"
+    for step in answered_steps(recording):
         values = [step.kind, *step.arguments, "eof" if step.answer != "eof" else "done"]
         file.write_bytes(recording.before_line(step.line) + json.dumps(values).encode())
         output = nrdb("--batch", file, status=1).splitlines()
         assert output[0] == f"step {step.number}: fault 109 answer", step
         reply = [line.split("   ")[0] for line in output[2:4]]
         assert reply == [f"| recorded: {values[-1]}", f"| machine:  {answer_text(step.answer)}"], step
-    assert len(kinds) >= 25
 
 
-def answered_steps():
-    """For each recording of version 2 in examples/, the first and the last step of each kind with each of its
-    answers."""
-    for recording in map(Recording.read, recordings()):
-        if recording.has_answers:
-            chosen: dict[tuple[str, str], list[Step]] = {}
-            for step in map(recording.step, range(1, recording.length + 1)):
-                of_one = chosen.setdefault((step.kind, answer_text(step.answer)), [step, step])
-                of_one[1] = step
-            for first, last in chosen.values():
-                yield recording, first
-                if last is not first:
-                    yield recording, last
+def test_the_examples_have_most_kinds() -> None:
+    assert len({step.kind for recording in ANSWERED.values() for step in answered_steps(recording)}) >= 25
 
 
 def test_each_bad_line_is_explained():
