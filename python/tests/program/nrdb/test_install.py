@@ -73,7 +73,7 @@ def test_what_make_installs_runs_by_itself(folder: Path) -> None:
         assert contents(lib) == contents(ROOT / "python")
         assert printed(prefix / "bin/nrdb", *ASKED) == nrdb(*ASKED)
         assert "netrev-go records Go programs." in printed(prefix / "bin/netrev-go", "--help")
-        found = "import sys; from netrev.system import built; print(built.netrev_program())"
+        found = "import sys; from netrev.system import program_path; print(program_path.netrev_program())"
         assert printed("python3", "-c", found, PYTHONPATH=str(prefix / "lib/netrev"), PATH=os.defpath).strip() == str(
             (prefix / "bin/netrev").resolve()
         )

@@ -62,7 +62,7 @@ def test_the_page_opens_with_the_root() -> None:
 
 
 @pytest.fixture(scope="module")
-def told() -> dict[str, Any]:
+def reports() -> dict[str, Any]:
     """What a search in the page shows."""
     return used(
         opened(page_of(HUB)),
