@@ -13,6 +13,7 @@ import pytest
 from netrev.findings.suspects import table
 from netrev.findings.suspects.suspect import Evidence, Suspect
 from netrev.recording.recording import Recording
+from netrev.recording.where import SourceLines
 from netrev_go.steps import forms, report
 from netrev_go.steps.forms import TestResult
 from netrev_go.steps.report import Conversion
@@ -144,7 +145,7 @@ def test_kept_schedules_carry_netrevs_answer_alone(tmp_path: Path, monkeypatch: 
 
 def test_a_doubt_about_a_rule_is_nrdbs_own_line() -> None:
     suspect = Suspect(3, 1, ["s"], listed=["at 3 x"], evidence=[Evidence(3, "rd 0", "-1")], looks=["goto 3"], rule="r")
-    lines = stub(words=lambda *_: "", of=lambda *_: stub(own=lambda *_: None))
+    lines = stub(words=lambda *_: "", of=lambda *_: stub(own=lambda *_: None), named=SourceLines().named)
     recording, scout = stub(lines=lines), stub(values=lambda *_: ["7"])
     rows = [row.text.strip() for row in table._rows(scout, recording, 1, suspect)]
     says = "netrev: at 3 x; at 3 rd 0 = 7"
