@@ -64,6 +64,7 @@ RECOVERED = "netrev-go: {recordings} of {runs} runs"
 
 # Problems with a log, printed after the log's name.
 TOO_SHORT = "too short for a log"
+EMPTY = "it is empty: it was truncated, or its program wrote nothing"
 NOT_A_LOG = "not a log of netrev-go"
 BAD_HEADER = "its header is damaged"
 NOT_A_FILE = "not a regular file"
@@ -82,6 +83,10 @@ NO_TIMER = "point {point}: a deadline passed whose timer wasn't due"
 
 # Missing parts of a recording, printed in parentheses.
 LOG_IS_FULL = "the log ran out of space and ends before the program did"
+LOG_IS_CUT = "the log was truncated while the program ran: recording ended then"
+NO_NUMBER_OF_POINTS = "NETREV_POINTS isn't a number, so the log has {points} points"
+OTHER_POINTS = "the log can't have {asked} points and has {points}"
+FEWER_POINTS = "the log has {points} points instead of {asked}, because its file system had no room for more"
 NEWEST_POINTS = "the log keeps the newest {kept} points of {all}"
 LOG_IS_DAMAGED = "the log is cut short or damaged: {usable} of its {kept} points can be used"
 ONE_UNFINISHED = "1 point wasn't finished when the log ended, and is left out"

@@ -30,12 +30,14 @@ HOLDER_CALL = 4  # the index of a row's first call, in the table of locked mutex
 POINT_WORDS = 8
 WORD = 8
 PAGE = 4_096
-HEADER_WORDS = 19
+HEADER_WORDS = 21
 ROW_WORDS, WAITER_WORDS = 16, 8  # in the tables of descriptors, and of goroutines that are queued for their locks
 STACK_BYTES, HOLDER_BYTES, POINT_BYTES = STACK_WORDS * WORD, HOLDER_WORDS * WORD, POINT_WORDS * WORD
 ROW_BYTES, WAITER_BYTES = ROW_WORDS * WORD, WAITER_WORDS * WORD
 AT_ONCE = 2**16  # points
 MOST_POINTS = 2**24
+CHUNK_POINTS = 2**14  # the header's count of points is at most about this old
+NOT_A_NUMBER = 2**64 - 1  # what was asked for, if that wasn't a number
 MOST_STACKS = 2**20
 MOST_HOLDERS = 2**20  # rows of the table of locked mutexes
 HOLDER_BEGUN = 1  # a row's address while the row is being written
@@ -55,7 +57,7 @@ class Header:
 
     def __init__(self, text: bytes) -> None:
         if len(text) < HEADER_WORDS * WORD:
-            raise NotALogError(messages.TOO_SHORT)
+            raise NotALogError(messages.TOO_SHORT if text else messages.EMPTY)
         words = struct.unpack_from(f"<{HEADER_WORDS}Q", text)
         if words[0] != MAGIC:
             raise NotALogError(messages.NOT_A_LOG)
@@ -69,14 +71,41 @@ class Header:
         self.rows, self.queue = words[15:17]  # 0 in older logs
         self.is_copy = words[17] == 1  # made while the program wrote
         self.is_sparse = words[18] == 1  # points without a time have the previous point's time
+        self.asked = words[19]  # the number of points that was asked for, if the ring has another number
+        self.has_full_size = words[20] != 0 and not self.is_copy  # (since logs name their PID namespace)
         are_possible = 0 < self.points <= MOST_POINTS and self.stacks <= MOST_STACKS and self.holders <= MOST_HOLDERS
         are_possible = are_possible and self.rows <= MOST_POINTS and self.queue <= MOST_POINTS
         if not are_possible or self.begin >= 2**63:
             raise NotALogError(messages.BAD_HEADER)
         self.rows_begin = HEADER_BYTES + self.stacks * STACK_BYTES + self.holders * HOLDER_BYTES
         self.ring = self.rows_begin + self.rows * ROW_BYTES + self.queue * WAITER_BYTES
-        if self.ended:
-            self.passed = min(self.passed, self.ended - 1)
+        self.end = self.ring + self.points * POINT_BYTES
+
+    def count(self, file: BinaryIO) -> None:
+        """Counts the points that were logged after the header was last written."""
+        newest = self.passed
+        while newest < self.passed + self.points:
+            place = newest % self.points
+            file.seek(self.ring + place * POINT_BYTES)
+            text = file.read(min(CHUNK_POINTS, self.points - place) * POINT_BYTES)
+            found = points_of(text[: len(text) // POINT_BYTES * POINT_BYTES], newest)
+            if not found:
+                break
+            newest = found[-1].number + 1
+        self.passed = min(newest, self.ended - 1) if self.ended else newest
+
+    def notes(self, size: int) -> list[str]:
+        """What a log of this many bytes lacks by its header."""
+        found = [messages.LOG_IS_FULL] if self.ended else []
+        if self.has_full_size and size < self.end:
+            found.append(messages.LOG_IS_CUT)
+        if self.asked == NOT_A_NUMBER:
+            found.append(messages.NO_NUMBER_OF_POINTS.format(points=self.points))
+        elif self.asked > MOST_POINTS or 0 < self.asked < self.points:
+            found.append(messages.OTHER_POINTS.format(asked=self.asked, points=self.points))
+        elif self.asked:
+            found.append(messages.FEWER_POINTS.format(asked=self.asked, points=self.points))
+        return found
 
 
 def read_stacks(file: BinaryIO, count: int) -> dict[int, PointStack]:
@@ -269,6 +298,9 @@ def log_of(file: BinaryIO, is_written: bool = False) -> Log:
     """The log in an open file. While the file was copied, the oldest points may have been replaced."""
     header = Header(file.read(HEADER_BYTES))
     is_written = is_written or header.is_copy
+    header.count(file)
+    size = file.seek(0, io.SEEK_END)
+    file.seek(HEADER_BYTES)
     stacks = read_stacks(file, header.stacks)
     holders = read_holders(file, header.holders, stacks)
     read, held = whole_points(file, header)
@@ -278,8 +310,7 @@ def log_of(file: BinaryIO, is_written: bool = False) -> Log:
     log.has_orders = header.has_orders
     log.holders = holders if header.knows_holders else None
     log.from_the_start = header.passed <= header.points and len(points) == len(read)
-    if header.ended:
-        log.notes.append(messages.LOG_IS_FULL)
+    log.notes += header.notes(size)
     if header.passed > header.points:
         log.notes.append(messages.NEWEST_POINTS.format(kept=header.points, all=header.passed))
     if (len(points) + UNDER_WAY < kept or held < kept) and not (is_written and header.passed > header.points):

@@ -4,7 +4,8 @@
 // Programs lock and unlock mutexes too often to log a point in the ring each time. Instead, a row is written after a
 // mutex is locked, and freed before the mutex is unlocked, so the table always has the locked mutexes, even after the
 // process has ended. Most mutexes are unlocked soon, on the same processor, so each processor has a few rows of its
-// own, which stay in its cache; the other rows are used only if these are taken.
+// own, which stay in its cache; the other rows are used only if these are taken. Which rows are free, and whose the others
+// are, is decided in netrevHeld; the log's table is only written.
 
 package runtime
 
@@ -44,6 +45,13 @@ const (
 
 type netrevHolderRow = [netrevHolderWords]uint64
 
+// A row of netrevHeld has the words netrevHolderAt and netrevHolderWhose of the row with this number in the log.
+var netrevHeld [netrevHolders]struct{ at, whose uint64 }
+
+const netrevNoRow = ^uint64(0)
+
+var netrevHoldersLost uint64
+
 // Both variables are 1 if mutexes are in the table. They are set before the program begins, if the rules for mutexes
 // fit, and never reset. Mutex reads the first and sync's RWMutex the second, because a package can link to a name of
 // the runtime only once.
@@ -70,13 +78,11 @@ func netrevHolderRowAt(row uint64) *netrevHolderRow {
 }
 
 // netrevNear returns a processor's row that may have a mutex; netrevFar returns a row that all processors share.
-func netrevNear(processor, place uint64) *netrevHolderRow {
-	return netrevHolderRowAt(processor*netrevNearRows + place%netrevNearRows)
+func netrevNear(processor, place uint64) uint64 {
+	return processor*netrevNearRows + place%netrevNearRows
 }
 
-func netrevFar(place uint64) *netrevHolderRow {
-	return netrevHolderRowAt(netrevNearEnd + place%netrevFarRows)
-}
+func netrevFar(place uint64) uint64 { return netrevNearEnd + place%netrevFarRows }
 
 // netrevNearby returns a goroutine's processor if the processor has rows of its own, or else netrevNearEnd.
 func netrevNearby(gp *g) uint64 {
@@ -89,25 +95,29 @@ func netrevNearby(gp *g) uint64 {
 // netrevHolds adds a mutex that the goroutine has locked to the table, with the stack from the given frame.
 func netrevHolds(at unsafe.Pointer, how uint64, frame uintptr) {
 	gp := getg()
-	if gp.m == nil || gp != gp.m.curg {
+	if gp.m == nil || gp != gp.m.curg || atomic.Load64(&netrevLogEnd) == netrevIsLost {
 		return
 	}
-	passed := atomic.Load64(netrevWord(netrevHeadPassed))
-	if row := netrevTakesRow(netrevNearby(gp), netrevMixed(uint64(uintptr(at)))); row != nil {
-		row[netrevHolderWhose] = uint64(gp.goid)<<1 | how
-		row[netrevHolderPassed] = passed
-		row[netrevHolderLength] = 0
-		if netrevLines {
-			row[netrevHolderLength] = netrevCallsFrom(gp, frame, row[netrevHolderCall:])
-		}
-		atomic.Store64(&row[netrevHolderAt], uint64(uintptr(at)))
+	passed := atomic.Load64(&netrevPassed.points)
+	number := netrevTakesRow(netrevNearby(gp), netrevMixed(uint64(uintptr(at))))
+	if number == netrevNoRow {
+		*netrevWord(netrevHeadHoldersLost) = uint64(atomic.Xadd64(&netrevHoldersLost, 1))
 		return
 	}
-	atomic.Xadd64(netrevWord(netrevHeadHoldersLost), 1)
+	held, row := &netrevHeld[number], netrevHolderRowAt(number)
+	held.whose = uint64(gp.goid)<<1 | how
+	row[netrevHolderWhose] = held.whose
+	row[netrevHolderPassed] = passed
+	row[netrevHolderLength] = 0
+	if netrevLines {
+		row[netrevHolderLength] = netrevCallsFrom(gp, frame, row[netrevHolderCall:])
+	}
+	atomic.Store64(&row[netrevHolderAt], uint64(uintptr(at)))
+	atomic.Store64(&held.at, uint64(uintptr(at)))
 }
 
-// netrevTakesRow takes a free row, or returns nil if no row is free.
-func netrevTakesRow(processor, place uint64) *netrevHolderRow {
+// netrevTakesRow takes a free row, or returns netrevNoRow if no row is free.
+func netrevTakesRow(processor, place uint64) uint64 {
 	if processor < netrevNearEnd {
 		for used := atomic.Load(&netrevNearUsed); uint64(used) <= processor; used = atomic.Load(&netrevNearUsed) {
 			atomic.Cas(&netrevNearUsed, used, uint32(processor)+1)
@@ -123,12 +133,12 @@ func netrevTakesRow(processor, place uint64) *netrevHolderRow {
 			return row
 		}
 	}
-	return nil
+	return netrevNoRow
 }
 
 // netrevIsTaken takes a row if it is free, and returns whether it was.
-func netrevIsTaken(row *netrevHolderRow) bool {
-	return atomic.Load64(&row[netrevHolderAt]) == 0 && atomic.Cas64(&row[netrevHolderAt], 0, netrevHolderBegun)
+func netrevIsTaken(row uint64) bool {
+	return atomic.Load64(&netrevHeld[row].at) == 0 && atomic.Cas64(&netrevHeld[row].at, 0, netrevHolderBegun)
 }
 
 // netrevCallsFrom fills words with the return addresses of a frame and its callers, and returns how many it wrote.
@@ -152,7 +162,7 @@ func netrevCallsFrom(gp *g, frame uintptr, words []uint64) uint64 {
 // locked.
 func netrevLetsGo(at unsafe.Pointer, how uint64) {
 	gp := getg()
-	if gp.m == nil || gp.m.curg == nil {
+	if gp.m == nil || gp.m.curg == nil || atomic.Load64(&netrevLogEnd) == netrevIsLost {
 		return
 	}
 	processor, mine := netrevNearby(gp), uint64(gp.m.curg.goid)<<1|how
@@ -190,12 +200,18 @@ func netrevFreesNear(at, mine uint64, isMine bool, processor, place uint64) bool
 }
 
 // netrevIsFreed frees a row if it belongs to this mutex, and returns whether it did.
-func netrevIsFreed(row *netrevHolderRow, at, mine uint64, isMine bool) bool {
-	if atomic.Load64(&row[netrevHolderAt]) != at {
+func netrevIsFreed(row, at, mine uint64, isMine bool) bool {
+	held := &netrevHeld[row]
+	if atomic.Load64(&held.at) != at {
 		return false
 	}
-	whose := row[netrevHolderWhose]
-	return whose&1 == mine&1 && (!isMine || whose == mine) && atomic.Cas64(&row[netrevHolderAt], at, 0)
+	whose := held.whose
+	if whose&1 != mine&1 || isMine && whose != mine || !atomic.Cas64(&held.at, at, netrevHolderBegun) {
+		return false
+	}
+	netrevHolderRowAt(row)[netrevHolderAt] = 0
+	atomic.Store64(&held.at, 0)
+	return true
 }
 
 // Up to Go 1.23 package sync had its own mutex; since 1.24 that is in internal/sync.

@@ -53,7 +53,8 @@ const (
 type netrevSide struct{ place, goid, stack, since uint64 }
 
 // A netrevRow is the row of a descriptor. A descriptor's memory is never freed, and another socket that reuses the
-// descriptor has the same row. The lock word is 0 while no socket has the descriptor.
+// descriptor has the same row. The lock word is 0 while no socket has the descriptor. The rows are in the program's own memory;
+// the log has copies of what netrev-go reads (netrevShown).
 type netrevRow struct {
 	pd, word uintptr
 	sides    [2]netrevSide
@@ -85,7 +86,7 @@ var (
 var (
 	netrevRows     uintptr // 0 without notes
 	netrevRowsMost uint64
-	netrevQueue    uintptr
+	netrevQueue    [netrevQueueMost]netrevWaiter
 	netrevRowOrder uintptr // the numbers of the rows in use, in the order in which they were taken
 	netrevRowCount uint32
 	netrevQueued   uint64
@@ -107,18 +108,21 @@ func netrevRowsFor(points uintptr) uintptr {
 
 // netrevKeepRows begins the tables of descriptors, after the log has begun.
 func netrevKeepRows() {
-	const readAndWrite, ownAndEmpty = 3, 0x22
 	if netrevRunning == nil || netrevTagOf == nil {
 		return
 	}
 	rows := netrevRowsFor(uintptr(netrevPoints))
-	order, errno := netrevSystem(netrevMmap, 0, rows*4, readAndWrite, ownAndEmpty, ^uintptr(0), 0)
+	table, errno := netrevSystem(netrevMmap, 0, rows*(netrevRowBytes+4), netrevReadAndWrite, netrevOwnAndEmpty, ^uintptr(0), 0)
 	if errno != 0 {
 		return
 	}
-	netrevRowsMost, netrevDue, netrevRowOrder = uint64(rows), netrevPoints/netrevParts, order
-	netrevRows = netrevBase + netrevRowsBegin
-	netrevQueue = netrevRows + rows*netrevRowBytes
+	netrevRowsMost, netrevDue = uint64(rows), netrevPoints/netrevParts
+	netrevRows, netrevRowOrder = table, table+rows*netrevRowBytes
+}
+
+// netrevShown returns the log's copy of a row.
+func netrevShown(row *netrevRow) *netrevRow {
+	return (*netrevRow)(unsafe.Pointer(netrevBase + netrevRowsBegin + (uintptr(unsafe.Pointer(row)) - netrevRows)))
 }
 
 func netrevRowAt(row uint64) *netrevRow {
@@ -154,10 +158,12 @@ func netrevInside(pd *pollDesc, mode int32, place, goid, stack uint64, since int
 	if row == nil {
 		return
 	}
-	side := &row.sides[netrevBit(mode == 'w')]
-	side.place = place
+	which := netrevBit(mode == 'w')
+	side, shown := &row.sides[which], &netrevShown(row).sides[which]
+	side.place, shown.place = place, place
 	if since != 0 {
 		side.goid, side.stack, side.since = goid, stack, uint64(since)
+		shown.goid, shown.stack, shown.since = goid, stack, uint64(since)
 	}
 }
 
@@ -180,8 +186,10 @@ func netrevBehind(kind uint64, goesOn bool) uint64 {
 	return netrevIsOutside
 }
 
-func netrevWaiterAt(row uint64) *netrevWaiter {
-	return (*netrevWaiter)(unsafe.Pointer(netrevQueue + uintptr(row)*unsafe.Sizeof(netrevWaiter{})))
+// netrevShownWaiter returns the log's copy of a waiter.
+func netrevShownWaiter(waiter *netrevWaiter) *netrevWaiter {
+	queue := netrevBase + netrevRowsBegin + uintptr(netrevRowsMost)*netrevRowBytes
+	return (*netrevWaiter)(unsafe.Pointer(queue + (uintptr(unsafe.Pointer(waiter)) - uintptr(unsafe.Pointer(&netrevQueue)))))
 }
 
 // netrevQueues records that a goroutine joins the queue of a semaphore. The caller holds the lock of the semaphore's root.
@@ -191,9 +199,10 @@ func netrevQueues(addr *uint32, goid, stack uint64) {
 	}
 	at := uintptr(unsafe.Pointer(addr))
 	for try := uint64(0); try < netrevRowTries; try++ {
-		row := netrevWaiterAt((netrevMixed(uint64(at)) + try) % netrevQueueMost)
+		row := &netrevQueue[(netrevMixed(uint64(at))+try)%netrevQueueMost]
 		if atomic.Casuintptr(&row.addr, 0, at) {
 			row.order, row.goid, row.stack, row.since = uint64(atomic.Xadd64(&netrevQueued, 1)), goid, stack, uint64(nanotime())
+			*netrevShownWaiter(row) = *row
 			return
 		}
 	}
@@ -205,7 +214,7 @@ func netrevQueues(addr *uint32, goid, stack uint64) {
 func netrevFirst(at uintptr, behind uint64) *netrevWaiter {
 	var first *netrevWaiter
 	for try := uint64(0); try < netrevRowTries; try++ {
-		row := netrevWaiterAt((netrevMixed(uint64(at)) + try) % netrevQueueMost)
+		row := &netrevQueue[(netrevMixed(uint64(at))+try)%netrevQueueMost]
 		if atomic.Loaduintptr(&row.addr) == at && row.order > behind && (first == nil || row.order < first.order) {
 			first = row
 		}
@@ -219,6 +228,7 @@ func netrevLeaves(addr *uint32) {
 		return
 	}
 	if first := netrevFirst(uintptr(unsafe.Pointer(addr)), 0); first != nil {
+		netrevShownWaiter(first).addr = 0
 		atomic.Storeuintptr(&first.addr, 0)
 	}
 }
@@ -238,6 +248,7 @@ func poll_runtime_netrevKnows(descriptor uintptr, word *uint64) {
 	lock(&netrevRowLock)
 	row.word, row.marks = uintptr(unsafe.Pointer(word)), 0
 	row.sides = [2]netrevSide{}
+	*netrevShown(row) = netrevRow{pd: row.pd, word: row.word}
 	unlock(&netrevRowLock)
 	if atomic.Load(&netrevNoting) != 0 {
 		netrevNote(row)
@@ -250,7 +261,7 @@ func poll_runtime_netrevKnows(descriptor uintptr, word *uint64) {
 func poll_runtime_netrevForgets(descriptor uintptr) {
 	if row := netrevRowKnown(descriptor); row != nil {
 		lock(&netrevRowLock)
-		row.word = 0
+		row.word, netrevShown(row).word = 0, 0
 		unlock(&netrevRowLock)
 	}
 }

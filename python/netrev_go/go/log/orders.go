@@ -32,10 +32,14 @@ const (
 	netrevTakes = 2
 )
 
+// netrevHasOrders is 1 once the log has such a point.
+var netrevHasOrders uint32
+
 // netrevOrder logs a point of a goroutine; it logs nothing if the scheduler itself acts.
 func netrevOrder(kind uint64, goid uint64, at unsafe.Pointer, a, b, c int64) {
 	if netrevOrders && netrevOn != 0 && goid != 0 {
-		if *netrevWord(netrevHeadOrders) == 0 {
+		if netrevHasOrders == 0 {
+			netrevHasOrders = 1
 			*netrevWord(netrevHeadOrders) = 1
 		}
 		netrevLog(kind, goid, uintptr(at), a, b, c, 0)

@@ -1,7 +1,7 @@
 // netrev's log of a process. In an overlaid Go, these functions are appended to runtime/netpoll.go.
 //
-// With NETREV_LOG=PATH in its environment, a program writes the file PATH.PID, which is mapped. However the process ends, the kernel
-// keeps what was written, and the file can be read while the process runs. Words have 64 bits. A
+// With NETREV_LOG=PATH in its environment, a program writes the file PATH.PID (files.go), which is mapped. However the process ends, the
+// kernel keeps what was written, and the file can be read while the process runs. Words have 64 bits. A
 // header comes first, then the stacks, the table of locked mutexes (holders.go), the tables of descriptors and of
 // goroutines that are queued for their locks (notes.go), and a ring of points. Without NETREV_LOG, the functions only
 // read netrevOn.
@@ -12,10 +12,8 @@
 package runtime
 
 import (
-	"internal/goarch"
 	"internal/runtime/atomic"
 	"internal/runtime/sys"
-	syscall "internal/runtime/syscall/linux"
 	"unsafe"
 )
 
@@ -29,13 +27,12 @@ const (
 	netrevRowsBegin   = netrevHeaderBytes + netrevStacksBytes + netrevHolders*netrevHolderWords*8
 	netrevPointWords  = 8
 	netrevChunk       = 1 << 14 // points for which room is made at once
-	netrevMostPoints  = 1 << 20
 )
 
 // Words of the header.
 const (
-	netrevHeadMagic = iota
-	netrevHeadPassed
+	netrevHeadMagic  = iota
+	netrevHeadPassed // how many points were logged when the header was last written: at the least, at each netrevChunk
 	netrevHeadPoints
 	netrevHeadStacks
 	netrevHeadBegin
@@ -53,6 +50,9 @@ const (
 	netrevHeadQueue        // and in the table of goroutines that are queued for their locks
 	netrevHeadCopied       // 1 in a copy that was taken while the program ran
 	netrevHeadSparse       // 1: a point without a time has the previous point's, and one without a stack its call's
+	netrevHeadAsked        // how many points were asked for, if not netrevHeadPoints; else 0; netrevUnreadable if not a number
+	netrevHeadNamespace    // the inode of the process's PID namespace
+	netrevHeadWords
 )
 
 // Kinds of points, with the numbers of a recording's steps; those above 100 aren't steps. orders.go has the others.
@@ -102,266 +102,35 @@ var (
 	netrevOrders bool
 	netrevSeed   uint64 // of the delays; 0 if there are none
 	netrevDraws  uint64
-	netrevOwn    []byte // the log's name
 	netrevBase   uintptr
 	netrevRing   uintptr
 	netrevPoints uint64
 	netrevRoomed uint64 // points with smaller numbers have room
 	netrevBegin  int64
 	netrevLocks  [64]netrevSpinLock
+
+	netrevLogEnd      uint64 // the number of the first point without room, plus 1; else 0
+	netrevStacksLost uint64
+	netrevKnown      [netrevStacks]uint64 // the hash of each stack in the table
 )
+
+// netrevPassed counts the points, in a cache line of its own, because each processor writes it at each point.
+var netrevPassed struct {
+	_      [64]byte
+	points uint64
+	_      [56]byte
+}
 
 func netrevWord(i uintptr) *uint64 { return (*uint64)(unsafe.Pointer(netrevBase + i*8)) }
-
-// netrevDigits appends a number to a text.
-func netrevDigits(text []byte, number uint64) []byte {
-	var digits [20]byte
-	at := len(digits)
-	for first := true; first || number > 0; first = false {
-		at--
-		digits[at] = byte('0' + number%10)
-		number /= 10
-	}
-	return append(text, digits[at:]...)
-}
-
-// netrevName returns a name with numbers appended, terminated by a zero byte as the kernel expects.
-func netrevName(path string, numbers ...uint64) []byte {
-	name := []byte(path)
-	for _, number := range numbers {
-		name = netrevDigits(append(name, '.'), number)
-	}
-	return append(name, 0)
-}
-
-// netrevNumber parses a number of at most 9 digits; it returns 0 if the text isn't one.
-func netrevNumber(text string) uint64 {
-	number := uint64(0)
-	for i := 0; i < len(text); i++ {
-		if text[i] < '0' || text[i] > '9' || i == 9 {
-			return 0
-		}
-		number = number*10 + uint64(text[i]-'0')
-	}
-	return number
-}
-
-// System calls by their numbers, because the runtime's own functions for them have moved from release to release. The calls for arm64
-// were compiled, but have never run.
-const (
-	netrevOpening   = 257*goarch.IsAmd64 + 56*goarch.IsArm64
-	netrevClosing   = 3*goarch.IsAmd64 + 57*goarch.IsArm64
-	netrevFstat     = 5*goarch.IsAmd64 + 80*goarch.IsArm64
-	netrevMmap      = 9*goarch.IsAmd64 + 222*goarch.IsArm64
-	netrevMadvise   = 28*goarch.IsAmd64 + 233*goarch.IsArm64
-	netrevGetpid    = 39*goarch.IsAmd64 + 172*goarch.IsArm64
-	netrevSendfile  = 40*goarch.IsAmd64 + 71*goarch.IsArm64
-	netrevTruncate  = 77*goarch.IsAmd64 + 46*goarch.IsArm64
-	netrevFutex     = 202*goarch.IsAmd64 + 98*goarch.IsArm64
-	netrevUnlink    = 263*goarch.IsAmd64 + 35*goarch.IsArm64
-	netrevFallocate = 285*goarch.IsAmd64 + 47*goarch.IsArm64
-	netrevPrlimit   = 302*goarch.IsAmd64 + 261*goarch.IsArm64
-)
-
-const (
-	netrevHere         = ^uintptr(99) // the process's current folder
-	netrevCreateAnew   = 0x2 | 0x40 | 0x80 | netrevCloseOnExec
-	netrevCloseOnExec  = 0x80000
-	netrevAlreadyThere = 17
-	netrevTooLarge     = 27
-	netrevPageBytes    = 4096
-)
-
-// netrevSystem makes a system call, and returns its result and error. The stack doesn't grow meanwhile, so nothing on
-// it moves.
-//
-//go:nosplit
-func netrevSystem(number uintptr, arguments ...uintptr) (uintptr, uintptr) {
-	var a [6]uintptr
-	copy(a[:], arguments)
-	result, _, errno := syscall.Syscall6(number, a[0], a[1], a[2], a[3], a[4], a[5])
-	return result, errno
-}
-
-//go:nosplit
-func netrevOpenFile(name []byte, flags, mode uintptr) (file, errno uintptr) {
-	return netrevSystem(netrevOpening, netrevHere, uintptr(unsafe.Pointer(&name[0])), flags, mode)
-}
-
-// netrevShared sets a file's size and maps it; the mapping writes through to the file, which may be closed.
-func netrevShared(file, size uintptr) (base, errno uintptr) {
-	const readAndWrite, shared = 3, 1
-	if _, errno = netrevSystem(netrevTruncate, file, size); errno != 0 {
-		return 0, errno
-	}
-	return netrevSystem(netrevMmap, 0, size, readAndWrite, shared, file, 0)
-}
-
-// netrevReserve reserves room for the first bytes of an open file, and returns the error of a full disk or quota. If a
-// file system can't reserve room, netrevReserve assumes that it has room.
-func netrevReserve(file, size uintptr) uintptr {
-	const noSpace, quota = 28, 122
-	if _, errno := netrevSystem(netrevFallocate, file, 0, 0, size); errno == noSpace || errno == quota {
-		return errno
-	}
-	return 0
-}
-
-// netrevHasRoom reserves room for a part of a mapping, and returns whether it succeeded. The kernel writes there
-// first: if there is no room, it returns an error, and the program isn't killed by SIGBUS, as it would be by its own
-// write. This needs no descriptor. Before Linux 5.14 no single call reserves all pages, so there the kernel adds 0 to a word of each
-// page.
-func netrevHasRoom(begin, size uintptr) bool {
-	const populateWrite, wakeOp, private, add, fault = 23, 5, 128, 1 << 28, 14
-	page := begin &^ (netrevPageBytes - 1)
-	if _, errno := netrevSystem(netrevMadvise, page, begin+size-page, populateWrite); errno == 0 {
-		return true
-	}
-	for ; page < begin+size; page += netrevPageBytes {
-		if _, errno := netrevSystem(netrevFutex, page, wakeOp|private, 0, 0, page, add); errno == fault {
-			return false
-		}
-	}
-	return true
-}
-
-// netrevLargest returns how many bytes a file of this process may have (ulimit -f). Writing a longer one would raise
-// SIGXFSZ.
-func netrevLargest() uintptr {
-	const fileSize = 1
-	limits := [2]uint64{^uint64(0), 0}
-	netrevSystem(netrevPrlimit, 0, fileSize, 0, uintptr(unsafe.Pointer(&limits)))
-	return uintptr(limits[0])
-}
-
-// The log begins before any code of the program runs.
-func init() {
-	path := gogetenv("NETREV_LOG")
-	if path == "" {
-		return
-	}
-	process, _ := netrevSystem(netrevGetpid)
-	netrevOwn = netrevName(path, uint64(process))
-	file, errno := netrevOpenFile(netrevOwn, netrevCreateAnew, 0600)
-	for again := uint64(2); errno == netrevAlreadyThere && again < 10; again++ { // the process has executed another program
-		netrevOwn = netrevName(path, uint64(process), again)
-		file, errno = netrevOpenFile(netrevOwn, netrevCreateAnew, 0600)
-	}
-	if errno == 0 {
-		if errno = netrevMap(file, uint64(process)); errno != 0 {
-			netrevSystem(netrevUnlink, netrevHere, uintptr(unsafe.Pointer(&netrevOwn[0])), 0)
-		}
-		netrevSystem(netrevClosing, file)
-	}
-	if errno != 0 {
-		netrevUnrecorded(path, uint64(process), uint64(errno))
-		return
-	}
-	netrevKeepProgram(path)
-	netrevKeepRows()
-	netrevLines = gogetenv("NETREV_LINES") != "0"
-	netrevOrders = gogetenv("NETREV_ORDERS") != "0"
-	netrevSeed = netrevNumber(gogetenv("NETREV_DELAYS"))
-	atomic.Store(&netrevOn, 1)
-}
-
-// netrevUnrecorded leaves the empty file PATH.unrecorded/process.PROCESS.ERROR, which tells netrev-go about a process
-// that can't write a log. Without that folder it leaves nothing. It prints nothing, because standard error belongs to the program, and
-// another program may read it.
-func netrevUnrecorded(path string, process, why uint64) {
-	if file, errno := netrevOpenFile(netrevName(path+".unrecorded/process", process, why), netrevCreateAnew, 0600); errno == 0 {
-		netrevSystem(netrevClosing, file)
-	}
-}
-
-// netrevRingBegin returns the offset at which the ring of a log with this many points begins.
-func netrevRingBegin(points uintptr) uintptr {
-	return netrevRowsBegin + netrevRowsFor(points)*netrevRowBytes + netrevQueueMost*netrevWaiterBytes
-}
-
-// netrevMap gives the log its size and its header, with fewer points if the size of this process's files is limited.
-func netrevMap(file uintptr, process uint64) (errno uintptr) {
-	const pointBytes = netrevPointWords * 8
-	points := uintptr(netrevMostPoints)
-	if n := netrevNumber(gogetenv("NETREV_POINTS")); n >= netrevChunk {
-		points = uintptr(n)
-	}
-	ring := netrevRingBegin(points)
-	if largest := netrevLargest(); largest < ring+points*pointBytes {
-		if ring = netrevRingBegin(netrevChunk); largest < ring+netrevChunk*pointBytes {
-			return netrevTooLarge
-		}
-		if points > largest/pointBytes {
-			points = largest / pointBytes
-		}
-		ring = netrevRingBegin(points)
-		if points = (largest - ring) / pointBytes / netrevChunk * netrevChunk; points < netrevChunk {
-			points = netrevChunk
-		}
-		ring = netrevRingBegin(points)
-	}
-	base, errno := netrevShared(file, ring+points*pointBytes)
-	if errno != 0 {
-		return errno
-	}
-	if errno = netrevReserve(file, ring+netrevChunk*pointBytes); errno != 0 {
-		return errno
-	}
-	netrevBase = base
-	netrevRing = netrevBase + ring
-	netrevPoints = uint64(points)
-	netrevBegin = nanotime()
-	*netrevWord(netrevHeadPoints) = netrevPoints
-	*netrevWord(netrevHeadStacks) = netrevStacks
-	*netrevWord(netrevHeadBegin) = uint64(netrevBegin)
-	*netrevWord(netrevHeadProcess) = process
-	*netrevWord(netrevHeadText) = uint64(firstmoduledata.text)
-	*netrevWord(netrevHeadHolders) = netrevHolders
-	*netrevWord(netrevHeadRows), *netrevWord(netrevHeadQueue) = uint64(netrevRowsFor(points)), netrevQueueMost
-	*netrevWord(netrevHeadSparse) = 1
-	atomic.Store64(netrevWord(netrevHeadMagic), netrevMagic)
-	return 0
-}
-
-// netrevKeepProgram copies the program beside the log, once for all processes that run it. netrev-go uses the copy to
-// turn addresses into source lines. If there is no room for the copy, it is removed again.
-func netrevKeepProgram(path string) {
-	from, errno := netrevOpenFile([]byte("/proc/self/exe\x00"), netrevCloseOnExec, 0)
-	if errno != 0 {
-		return
-	}
-	var status [24]uint64
-	netrevSystem(netrevFstat, from, uintptr(unsafe.Pointer(&status)))
-	inode, size, changed := status[1], uintptr(status[6]), status[11]*1000000000+status[12]
-	*netrevWord(netrevHeadProgram), *netrevWord(netrevHeadProgramTime) = inode, changed
-	name := netrevName(path+".program", inode, changed)
-	if size <= netrevLargest() {
-		if to, errno := netrevOpenFile(name, netrevCreateAnew, 0600); errno == 0 {
-			if netrevCopy(from, to) < size {
-				netrevSystem(netrevUnlink, netrevHere, uintptr(unsafe.Pointer(&name[0])), 0)
-			}
-			netrevSystem(netrevClosing, to)
-		}
-	}
-	netrevSystem(netrevClosing, from)
-}
-
-// netrevCopy copies the rest of a file, and returns the number of bytes copied.
-func netrevCopy(from, to uintptr) (copied uintptr) {
-	for {
-		n, errno := netrevSystem(netrevSendfile, to, from, 0, 1<<30)
-		if errno != 0 || n == 0 {
-			return copied
-		}
-		copied += n
-	}
-}
 
 // netrevLog writes a point: its kind, its goroutine, its address, the values seen there, and the time; `now` is the
 // time that Go read for the same action, or 0 if it read none. The point takes its number here, under the lock of its object. netrevLog
 // returns the stack's number.
 func netrevLog(kind uint64, goid uint64, at uintptr, a, b, c, now int64) (stack uint64) {
 	number := netrevNext()
+	if atomic.Load64(&netrevLogEnd) == netrevIsLost {
+		return 0
+	}
 	hasTime, hasStack := netrevTimedSteps>>kind&1 != 0, netrevStackedSteps>>kind&1 != 0
 	gp := getg()
 	if kind >= netrevOpenFailed { // on a channel, a goroutine may log the point of another, which has a different stack
@@ -379,7 +148,7 @@ func netrevLog(kind uint64, goid uint64, at uintptr, a, b, c, now int64) (stack 
 
 // netrevNext returns the number of the next point.
 func netrevNext() uint64 {
-	number := uint64(atomic.Xadd64(netrevWord(netrevHeadPassed), 1)) - 1
+	number := uint64(atomic.Xadd64(&netrevPassed.points, 1)) - 1
 	if number >= atomic.Load64(&netrevDue) && atomic.Load(&netrevIsDue) == 0 {
 		atomic.Store(&netrevIsDue, 1)
 	}
@@ -390,14 +159,17 @@ func netrevNext() uint64 {
 // store has to wait for the store before it. The point's cache line is seldom loaded, so such a wait would be long.
 func netrevWrite(number, kind, goid uint64, at uintptr, a, b, c, now int64, stack uint64) {
 	if number%netrevChunk == 0 {
+		netrevWriteHeader()
 		netrevRoom(number)
 	}
-	if ended := atomic.Load64(netrevWord(netrevHeadEnded)); ended != 0 && number >= ended-1 {
+	if ended := atomic.Load64(&netrevLogEnd); ended != 0 && number >= ended-1 {
 		return
 	}
 	place := netrevRing + uintptr(number%netrevPoints)*netrevPointWords*8
 	if number >= atomic.Load64(&netrevRoomed) && !netrevHasRoom(place, netrevPointWords*8) {
-		atomic.Cas64(netrevWord(netrevHeadEnded), 0, number+1)
+		if atomic.Cas64(&netrevLogEnd, 0, number+1) {
+			*netrevWord(netrevHeadEnded) = number + 1
+		}
 		return
 	}
 	p := (*[netrevPointWords]uint64)(unsafe.Pointer(place))
@@ -443,10 +215,9 @@ func netrevStack(gp *g, frame uintptr) uint64 {
 	hash |= 1
 	for i := uint64(0); i < 32; i++ {
 		slot := (hash>>33 + i) % netrevStacks
-		s := (*[netrevStackWords]uint64)(unsafe.Pointer(netrevBase + netrevHeaderBytes + uintptr(slot)*netrevStackWords*8))
-		old := atomic.Load64(&s[0])
-		if old == 0 && atomic.Cas64(&s[0], 0, hash) {
-			s[2], s[3] = uint64(gp.gopc), uint64(gp.startpc)
+		if atomic.Load64(&netrevKnown[slot]) == 0 && atomic.Cas64(&netrevKnown[slot], 0, hash) {
+			s := (*[netrevStackWords]uint64)(unsafe.Pointer(netrevBase + netrevHeaderBytes + uintptr(slot)*netrevStackWords*8))
+			s[0], s[2], s[3] = hash, uint64(gp.gopc), uint64(gp.startpc)
 			for j, fp := 0, frame; j < n; j++ {
 				s[4+j] = uint64(*(*uintptr)(unsafe.Pointer(fp + 8)))
 				fp = *(*uintptr)(unsafe.Pointer(fp))
@@ -454,11 +225,11 @@ func netrevStack(gp *g, frame uintptr) uint64 {
 			atomic.Store64(&s[1], uint64(n))
 			return slot + 1
 		}
-		if atomic.Load64(&s[0]) == hash {
+		if atomic.Load64(&netrevKnown[slot]) == hash {
 			return slot + 1
 		}
 	}
-	atomic.Xadd64(netrevWord(netrevHeadStacksLost), 1)
+	*netrevWord(netrevHeadStacksLost) = uint64(atomic.Xadd64(&netrevStacksLost, 1))
 	return 0
 }
 
@@ -783,56 +554,6 @@ func poll_runtime_netrevClosed(kind uint64, word *uint64, bits int64) {
 	old := int64(atomic.Load64(word))
 	netrevLog(kind, netrevGoroutine(), uintptr(unsafe.Pointer(word)), old, old, bits, 0)
 	netrevUnspin(l, mp)
-}
-
-// netrevTests is the address at which the file LOG.tests of a program with tests is mapped, or 0 if it isn't mapped.
-var (
-	netrevTests     uintptr
-	netrevTestsRoom uintptr
-	netrevTestsUsed uint64
-)
-
-// netrevTest writes a line to LOG.tests: how many points were logged, the goroutine, the time since the log began, what
-// happened, and to which test or package. The first call makes the file. Lines for which the file has no room are dropped.
-//
-//go:linkname netrevTest
-func netrevTest(what, name string) {
-	if netrevOn == 0 || netrevTests == 0 && !netrevMapTests() {
-		return
-	}
-	line := netrevDigits(nil, atomic.Load64(netrevWord(netrevHeadPassed)))
-	line = netrevDigits(append(line, ' '), netrevGoroutine())
-	line = netrevDigits(append(line, ' '), uint64(nanotime()-netrevBegin))
-	line = append(append(append(append(append(line, ' '), what...), ' '), name...), '\n')
-	end := uintptr(atomic.Xadd64(&netrevTestsUsed, int64(len(line))))
-	begin := end - uintptr(len(line))
-	if end > netrevTestsRoom || !netrevHasRoom(netrevTests+begin, uintptr(len(line))) {
-		return
-	}
-	last := len(line) - 1 // the last byte first: an unfinished line then takes nothing of the next one
-	*(*byte)(unsafe.Pointer(netrevTests + end - 1)) = line[last]
-	copy(unsafe.Slice((*byte)(unsafe.Pointer(netrevTests+begin)), last), line)
-}
-
-// netrevMapTests makes LOG.tests and maps it, and returns whether it could.
-func netrevMapTests() bool {
-	const most = 1 << 26
-	path := append(append([]byte{}, netrevOwn[:len(netrevOwn)-1]...), ".tests\x00"...)
-	file, errno := netrevOpenFile(path, netrevCreateAnew, 0600)
-	if errno != 0 {
-		return false
-	}
-	netrevTestsRoom = most
-	if largest := netrevLargest(); largest < most {
-		netrevTestsRoom = largest
-	}
-	base, errno := netrevShared(file, netrevTestsRoom)
-	netrevSystem(netrevClosing, file)
-	if errno != 0 {
-		return false
-	}
-	netrevTests = base
-	return true
 }
 
 func netrevMixed(x uint64) uint64 {

@@ -82,11 +82,16 @@ func netrevCopyLog() {
 // netrevWriteLog writes the log to a file, and returns the error. The ring is written right after the header, because new
 // points overwrite the oldest. The mark netrevCopied in the header says that some of the oldest points may be missing.
 func netrevWriteLog(file uintptr) uintptr {
+	const lost = 5 // an input or output error
 	ring, points := netrevRing-netrevBase, netrevPoints
 	if used := atomic.Load64(&netrevRoomed); used < points {
 		points = used
 	}
 	mark := uint64(netrevCopied)
+	if atomic.Load64(&netrevLogEnd) == netrevIsLost {
+		return lost
+	}
+	netrevWriteHeader()
 	if errno := netrevWriteAt(file, netrevBase, 0, netrevHeaderBytes); errno != 0 {
 		return errno
 	}

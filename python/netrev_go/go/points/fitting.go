@@ -40,7 +40,7 @@ func (f *fitting) fit(s *source) {
 // wanted returns all rules, each with what isn't recorded if it doesn't fit.
 func wanted() []fitting {
 	var all []fitting
-	for _, r := range steps {
+	for _, r := range append(steps, faults...) {
 		all = append(all, fitting{rule: r})
 	}
 	for _, r := range calls {

@@ -17,15 +17,20 @@ var before124 = map[string]struct {
 	"internal/runtime/sys":           {declares: "GetCallerSP", what: "sys.GetCallerSP()", instead: "getcallersp()"},
 }
 
-// oursFor returns the part of our file that is appended to a Go file, and the imports that the Go file lacks.
-func oursFor(folder, path string, host *source) (functions, imports string, err error) {
+// imported returns the names by which a file refers to packages.
+func (s *source) imported() map[string]bool {
+	has := map[string]bool{}
+	for _, i := range s.syntax.Imports {
+		has[localName(i)] = true
+	}
+	return has
+}
+
+// oursFor returns the part of our file that is appended to a Go file, and the imports that the Go file lacks, which it adds to `has`.
+func oursFor(folder, path string, has map[string]bool) (functions, imports string, err error) {
 	ours, err := readSource(path)
 	if err != nil {
 		return "", "", err
-	}
-	has := map[string]bool{}
-	for _, i := range host.syntax.Imports {
-		has[localName(i)] = true
 	}
 	text := ours.text[ours.endOfImports():]
 	for _, i := range ours.syntax.Imports {
@@ -41,6 +46,7 @@ func oursFor(folder, path string, host *source) (functions, imports string, err 
 			text, err = strings.ReplaceAll(text, older.what, older.instead), nil
 		} else if !has[name] {
 			imports += fmt.Sprintf("; import %s %q", name, path)
+			has[name] = true
 		}
 	}
 	return text, imports, nil

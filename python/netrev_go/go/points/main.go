@@ -26,14 +26,14 @@ func overlay(folder, log, out string, sources map[string]*source, fittings []fit
 		if len(changes[file]) == 0 {
 			continue
 		}
-		text := ""
-		if ours := appended[file]; ours != "" {
-			functions, imports, err := oursFor(folder, filepath.Join(log, ours), s)
+		text, end := "", s.offset(s.syntax.Name.End())
+		has := s.imported()
+		for _, ours := range appended[file] {
+			functions, imports, err := oursFor(folder, filepath.Join(log, ours), has)
 			if err != nil {
 				return err
 			}
-			text = functions
-			end := s.offset(s.syntax.Name.End())
+			text += functions
 			changes[file] = append(changes[file], change{end, end, imports})
 		}
 		name := filepath.Join(out, strings.ReplaceAll(file, "/", "_"))

@@ -46,10 +46,11 @@ const (
 	grouping  = "sync/waitgroup.go"
 )
 
-// For each of our files, the file of Go to which it is appended.
-var appended = map[string]string{
-	lockWords: "poll.go", polling: "runtime.go", epolling: "notes.go", channels: "orders.go", queueing: "holders.go", grouping: "groups.go", testing: "tests.go",
-	mutexes: "mutexes.go", mutexesSince124: "mutexes.go", readWriting: "readers.go", connecting: "dials.go", signalling: "signals.go",
+// For each file of Go, our files that are appended to it.
+var appended = map[string][]string{
+	lockWords: {"poll.go"}, polling: {"runtime.go", "files.go", "earlier.go"}, epolling: {"notes.go"}, channels: {"orders.go"}, queueing: {"holders.go"},
+	grouping: {"groups.go"}, testing: {"tests.go"}, mutexes: {"mutexes.go"}, mutexesSince124: {"mutexes.go"}, readWriting: {"readers.go"},
+	connecting: {"dials.go"}, signalling: {"signals.go", "faults.go"},
 }
 
 const swap = "atomic.CompareAndSwapUint64(&mu.state, old, new)"
@@ -74,6 +75,12 @@ const ofDeadlines = "that a call that sets a deadline is one point and not three
 var calls = []rule{
 	{deadlines, "setDeadlineImpl", all(
 		one(before, "fd.incref()", "if netrevOn != 0 && netrevSetsDeadline(fd, d, mode) { return nil }"))},
+}
+
+// Without this rule, a log that can't be written any more would end the program, so it is required too.
+var faults = []rule{
+	{signalling, "sigtrampgo", all(
+		one(before, "sigfwdgo(sig, info, ctx)", "if netrevFaults(sig, info) { return }"))},
 }
 
 // The points of steps. All of them are required.
