@@ -196,7 +196,9 @@ class Served:
         for log in logs.iterdir():
             if of_log is not None and ".program" not in log.name:
                 with log.open("rb") as file:
-                    points = Header(file.read(HEADER_BYTES)).passed / (self.requests + self.requests // WARMING)
+                    header = Header(file.read(HEADER_BYTES))
+                    header.count(file)
+                    points = header.passed / (self.requests + self.requests // WARMING)
                 self.points[connections, way].append(points)
                 self.kept[connections, way][-1] = points * POINT_BYTES
             log.unlink()

@@ -34,7 +34,7 @@ PROCESS_HAS_NO_LOG = (
     "or run it with `{netrev_go} run`"
 )
 FILE_SIZE_IS_LIMITED = "`ulimit -f` limits the size of its files"
-TOO_MANY_PROGRAMS = "it replaced its program too often"
+TOO_MANY_PROGRAMS = "the 1,000 names of its log are taken"
 MEMORY_IS_LIMITED = "`ulimit -v` limits its memory"
 PROCESS_UNRECORDED = "process {process} couldn't write a log ({why}) and isn't recorded"
 PROCESSES_UNRECORDED = "{count} processes couldn't write a log ({why}) and aren't recorded"

@@ -112,7 +112,7 @@ def stop_at_once() -> None:
 
 def environment(folder: pathlib.Path, limits: RunLimits, delays: int = 0) -> dict[str, str]:
     """The environment in which programs record. `delays` is the seed of the recorder's delays, 0 for none."""
-    settings = {"NETREV_LOG": str(folder / "log"), "NETREV_POINTS": str(limits.points)}
+    settings = {"NETREV_LOG": str(folder / "log"), "NETREV_POINTS": str(limits.points), "NETREV_KEEP": "all"}
     if limits.processors:
         settings["GOMAXPROCS"] = str(limits.processors)
     if not limits.lines:

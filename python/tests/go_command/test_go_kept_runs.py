@@ -25,6 +25,7 @@ from netrev_go.cli import ExitStatus
 from netrev_go.go_command.outputs import base_name, look
 from netrev_go.go_command.running import SIGNALS, logs_in
 from netrev_go.go_command.toolchain import Go, RecorderError
+from netrev_go.log.logfile import Header
 from netrev_go.log.points import Log, PointKind
 from netrev_go.steps import recording_builder, report
 from netrev_go.steps.recording_builder import make
@@ -267,9 +268,8 @@ def test_it_is_gos_own_first(run: Run) -> None:
 
 def test_a_test_that_passes_without_a_socket_passes(run: Run) -> None:
     log = run.folder / "empty"
-    data = bytearray(run.log.read_bytes())
-    data[8:16] = bytes(8)  # no point was logged
-    log.write_bytes(data)
+    data = run.log.read_bytes()
+    log.write_bytes(data[:8] + bytes(8) + data[16 : Header(data).ring])  # no point was logged
     returned, output = run.called("--strict", "run", ".", leaves=f'cp {log} "$NETREV_LOG.$$"')
     assert (returned, "no socket was opened: there is nothing to record" in output) == (0, True), output
     assert "the logs are in" not in output

@@ -203,11 +203,12 @@ def test_a_copy_has_all_that_the_log_has(folder: pathlib.Path) -> None:
 def test_points_that_were_replaced_while_it_was_copied_are_no_damage() -> None:
     points = [Point(number, PointKind.INIT, 1, WORD, 0, 0, 0, 5, 0) for number in range(200)]
     text = bytearray(binary(points, room=100))
-    struct.pack_into("<Q", text, 8, 195)  # the number of points when the copy began
+    struct.pack_into("<Q", text, 8, 150)  # the number of points when the header was last written
+    text[-3200:-3180] = bytes(20)  # a point that was being written
     for is_written, is_copy, damaged in ((True, 0, False), (False, 0, True), (False, 1, False)):
         struct.pack_into("<Q", text, COPIED * 8, is_copy)
         log = log_of(io.BytesIO(bytes(text)), is_written)
-        assert [point.number for point in log.points] == list(range(100, 195))
+        assert [point.number for point in log.points] == [*range(100, 150), *range(151, 200)]
         assert any("left out" in note for note in log.notes) == damaged
 
 

@@ -178,7 +178,8 @@ def test_a_call_of_another_goroutine_too() -> None:
 def test_what_is_no_log_is_said() -> None:
     whole = binary(opened(3))
     for data, text in (
-        (b"", "too short"),
+        (b"", "it is empty"),
+        (whole[:100], "too short"),
         (b"\0" * 5000, "not a log"),
         (b"NR 3 1 7 4 0 0\n" * 400, "not a log"),
         (whole[:16] + b"\xff" * 8 + whole[24:], "header is damaged"),

@@ -5,6 +5,7 @@ dev.recorder.fetching fetches.
 
     /usr/bin/python3 python tests.logs.test_go_recorded    stores the new text"""
 
+import io
 import os
 import re
 import subprocess
@@ -122,6 +123,7 @@ def raw_points(path: Path) -> list[Point]:
     """A log's points with the times as they were logged."""
     text = path.read_bytes()
     header = Header(text)
+    header.count(io.BytesIO(text))
     assert header.passed <= header.points
     return points_of(text[header.ring : header.ring + 64 * header.passed], 0)
 
