@@ -3,6 +3,7 @@ tests need the Go 1.27 that dev.recorder.fetching fetches."""
 
 import os
 import shutil
+import signal
 import subprocess
 import time
 from collections.abc import Iterator
@@ -77,6 +78,16 @@ def test_a_damaged_log_changes_nothing(server: Path, way: str, processors: int) 
     for seed in range(2):
         requests, why = go_damaged.damaged(server, processors, damage, str(seed), way in go_damaged.ON_A_DEVICE)
         assert (why, requests > 0) == ("", True)
+
+
+def test_a_lost_log_isnt_copied_at_a_signal(server: Path, folder: Path) -> None:
+    with running([server], folder, NETREV_SIGNAL="usr2") as process:
+        os.truncate(folder / f"log.{process}", 0)
+        time.sleep(0.2)
+        os.kill(process, signal.SIGUSR2)
+        time.sleep(0.2)
+    assert (folder / f"log.{process}.snapshot.failed.005").exists()
+    assert not (folder / f"log.{process}.snapshot").exists()
 
 
 def test_damaged_lines_about_tests_change_nothing(folder: Path) -> None:
@@ -177,7 +188,6 @@ def test_a_process_without_a_log_says_why(server: Path, folder: Path) -> None:
     with running([server], folder, "missing/log") as process:
         assert "/memfd:netrev-unwritten.2 (deleted)" in names_of(process)
     (folder / "elsewhere").mkdir()
-    (folder / "bad").symlink_to("elsewhere")
     (folder / "log.unrecorded").symlink_to("elsewhere")
     with running(["sh", "-c", f"ulimit -f 100; exec {server} 1"], folder) as process:
         assert "/memfd:netrev-unwritten.27 (deleted)" in names_of(process)

@@ -21,6 +21,7 @@ const (
 	netrevFstat     = 5*goarch.IsAmd64 + 80*goarch.IsArm64
 	netrevFstatfs   = 138*goarch.IsAmd64 + 44*goarch.IsArm64
 	netrevMmap      = 9*goarch.IsAmd64 + 222*goarch.IsArm64
+	netrevMunmap    = 11*goarch.IsAmd64 + 215*goarch.IsArm64
 	netrevMadvise   = 28*goarch.IsAmd64 + 233*goarch.IsArm64
 	netrevGetpid    = 39*goarch.IsAmd64 + 172*goarch.IsArm64
 	netrevGetuid    = 102*goarch.IsAmd64 + 174*goarch.IsArm64
@@ -381,6 +382,7 @@ func netrevMap(file uintptr, process uint64) (errno uintptr) {
 		return errno
 	}
 	if errno = netrevReserve(file, ring+netrevChunk*pointBytes); errno != 0 {
+		netrevSystem(netrevMunmap, base, size+netrevPageBytes)
 		return errno
 	}
 	netrevBase, netrevBytes, netrevRing = base, size, base+ring
