@@ -15,6 +15,7 @@ from dev.recorder.readiness import Readiness
 from netrev.messages import recorder as messages
 from netrev_go import cli, doctor, go_test, go_test_results, options
 from netrev_go.go_command import outputs, status
+from netrev_go.go_command.process_logs import ProcessLog
 from netrev_go.go_command.toolchain import RecorderError
 from netrev_go.go_test_results import Recordings
 from netrev_go.log import source_lines
@@ -255,7 +256,7 @@ def test_only_the_log_of_a_process_is_still_written(
         written.append(is_written)
         return Made(lines=[], taken=True)
 
-    monkeypatch.setattr(cli, "log_of_process", lambda number: Path(f"log.{number}"))
+    monkeypatch.setattr(cli, "log_of_process", lambda number: ProcessLog(Path(f"log.{number}")))
     monkeypatch.setattr(cli, "go_if_any", lambda: None)
     monkeypatch.setattr(cli, "wish_of", lambda options: None)
     monkeypatch.setattr(cli, "convert", convert)
