@@ -18,6 +18,7 @@ from typing import NamedTuple
 
 from netrev.messages import recorder as messages
 
+from .build_errors import CopiedErrors
 from .toolchain import RecorderError
 
 MOST_POINTS = 2**20
@@ -169,14 +170,26 @@ class GoRunner:
     """Go's command, and the programs that it starts. Signals for netrev-go are queued until it checks them; signals for
     the command are not queued."""
 
-    def __init__(self, command: list[str], folder: pathlib.Path, limits: RunLimits, delays: int = 0) -> None:
+    def __init__(
+        self,
+        command: list[str],
+        folder: pathlib.Path,
+        limits: RunLimits,
+        delays: int = 0,
+        errors: CopiedErrors | None = None,
+    ) -> None:
         self.folder, self.limits = folder, limits
         self.began: dict[pathlib.Path, float] = {}
         self.told: set[pathlib.Path] = set()  # to quit
         self.cancelled = False
         self._signals = heeded()
         signal.pthread_sigmask(signal.SIG_BLOCK, self._signals)
-        self.process = subprocess.Popen(command, env=environment(folder, limits, delays), preexec_fn=unblock_signals)
+        self.process = subprocess.Popen(
+            command, env=environment(folder, limits, delays), preexec_fn=unblock_signals,
+            stderr=errors.to if errors else None,
+        )  # fmt: skip
+        if errors:
+            errors.start()
 
     def wait(self, so_far: Callable[[], None]) -> int:
         """Go's exit status. `so_far` is called when a recording is requested while the program runs."""

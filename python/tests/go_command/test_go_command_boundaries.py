@@ -201,7 +201,10 @@ def run_of(folder: Path, runner: Runner, monkeypatch: Patch) -> go_test.GoRun:
     for name, fake in fakes.items():
         monkeypatch.setattr(go_test, name, fake)
     recordings = Made(base=folder / "new", all_recorded=True, take=lambda item, failed: None)
-    return go_test.GoRun(argparse.Namespace(points=1, keep=False), *cast(Any, (None, ["go", "test"], None, recordings)))
+    return go_test.GoRun(
+        argparse.Namespace(points=1, keep=False, json=None, junit=None, github=False),
+        *cast(Any, (None, ["go", "test"], None, recordings)),
+    )
 
 
 @pytest.mark.parametrize("is_cancelled", [True, False])
