@@ -154,7 +154,7 @@ def watch(options: argparse.Namespace, go: Go | None, recording_options: Recordi
     log = log_of_process(options.pid)
     look(base_name(options.o, "snapshot"), "")
     if not log.fault:
-        say([f"netrev-go: watching process {options.pid}; Ctrl-C ends that"])
+        complain(messages.WATCHING.format(process=options.pid))
     try:
         while not log.fault:
             if found := first_stuck(options, log, go):

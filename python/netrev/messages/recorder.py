@@ -64,6 +64,7 @@ OPENED_NONE = "{processes} opened no socket"
 
 NO_TABLE = "{log} has no table of waiting goroutines: build the program with this netrev-go"
 LOG_UNREADABLE = "{log} can't be read: {why}"
+WATCHING = "watching process {process}; Ctrl-C ends that"
 NO_LONG_WAIT = "process {process} has ended, and no call waited that long"
 
 # Runs that were interrupted before recordings were made.

@@ -181,12 +181,12 @@ def test_the_log_among_mapped_files(path: str, is_log: bool, monkeypatch: Patch)
 def when_watching(does: Callable[[], object], monkeypatch: Patch) -> None:
     """Calls this as soon as a watch begins."""
 
-    def say(lines: list[str], *_: object) -> None:
-        print("\n".join(lines), file=sys.stderr)
-        if "watching" in lines[0]:
+    def complain(text: str) -> None:
+        print(f"netrev-go: {text}", file=sys.stderr)
+        if text.startswith("watching"):
             does()
 
-    monkeypatch.setattr(snapshots, "say", say)
+    monkeypatch.setattr(snapshots, "complain", complain)
 
 
 def waiting(goroutine: int, since: int) -> bytes:
