@@ -159,12 +159,13 @@ class GoRun:
             errors = CopiedErrors() if is_read else None
             runner = GoRunner(self._command, folder, limits, test_round.delays, errors)
             status = shell_status(runner.wait(self._so_far(folder)))
+            printed = errors.text(SHORT_GRACE) if errors else ""
             if status and test_round.words() != "run 1":
                 say([messages.RUN_FAILED.format(run=test_round.words())])
             running = still_written(folder)
             is_whole = self._take(folder, status != 0)
-            if errors and status:
-                self._recordings.take_errors(errors.text(SHORT_GRACE), bool(logs_in(folder)))
+            if printed and status:
+                self._recordings.take_errors(printed, bool(logs_in(folder)))
             self.is_last = self.is_last or runner.is_cancelled()
             return status
         finally:

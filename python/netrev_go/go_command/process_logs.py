@@ -21,7 +21,7 @@ from .toolchain import RecorderError
 STARTING = 1.0  # seconds within which a program that was just started makes its log
 REMOVED = " (deleted)"
 # A page that a program maps if it writes no log (go/log/runtime.go): its name has the system's error.
-UNWRITTEN = re.compile(r"/memfd:netrev-(?:unwritten\.(\d+)|secure)" + re.escape(REMOVED))
+UNWRITTEN = re.compile(r"/memfd:netrev-(?:unwritten\.(\d{1,4})|secure)" + re.escape(REMOVED))
 
 
 class ProcessEndedError(RecorderError):
@@ -100,12 +100,12 @@ def refuse(process: int, number: int, error: str | None) -> NoReturn:
 
 def log_at(process: int, mapping: Mapping, size: int) -> ProcessLog:
     """The log of which a process has mapped this many bytes. If the program can't use the log any more, only the last
-    page is still mapped, which comes after the log's own bytes."""
+    page is still mapped, which comes after the log's own bytes and after the rest of their last page."""
     if mapping.path.endswith(REMOVED):
         log = mapping.path.removesuffix(REMOVED)
         raise RecorderError(messages.LOG_IS_REMOVED.format(process=process, log=log))
     path, length = place_of(process, mapping)
-    if size <= mmap.PAGESIZE or length is not None and length < size - mmap.PAGESIZE:
+    if size <= mmap.PAGESIZE or length is not None and length + 2 * mmap.PAGESIZE < size:
         return ProcessLog(path, messages.LOG_HAS_ENDED.format(process=process, log=mapping.path))
     return ProcessLog(path)
 

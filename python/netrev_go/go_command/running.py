@@ -171,13 +171,8 @@ class GoRunner:
     the command are not queued."""
 
     def __init__(
-        self,
-        command: list[str],
-        folder: pathlib.Path,
-        limits: RunLimits,
-        delays: int = 0,
-        errors: CopiedErrors | None = None,
-    ) -> None:
+        self, command: list[str], folder: pathlib.Path, limits: RunLimits, delays: int = 0, errors: CopiedErrors | None = None
+    ) -> None:  # fmt: skip
         self.folder, self.limits = folder, limits
         self.began: dict[pathlib.Path, float] = {}
         self.told: set[pathlib.Path] = set()  # to quit

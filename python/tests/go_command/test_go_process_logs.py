@@ -272,3 +272,13 @@ def test_a_full_disk_leaves_an_earlier_recording(
         assert cli.main(["-o", str(full / "now"), "--words", *words]) == cli.ExitStatus.TROUBLE
         assert "".join(capsys.readouterr()) == f"netrev-go: {full}/now.jsonl: No space left on device\n"
         assert {name: (full / name).read_text() for name in earlier} == earlier
+
+
+@pytest.mark.parametrize("netrev, status", [(None, 0), ("/nowhere/netrev", 1)])
+def test_a_recording_that_was_not_checked(
+    netrev: str | None, status: int, path: Path, cleanups: ExitStack, monkeypatch: Patch, capsys: Output
+) -> None:
+    process = started(path, cleanups, "log(own, text)")
+    monkeypatch.setattr(report, "netrev_program", lambda: netrev)
+    assert cli.main(["snapshot", str(process)]) == status
+    assert "  not checked" in capsys.readouterr().err and Path("snapshot.jsonl").exists()

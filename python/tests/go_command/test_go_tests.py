@@ -24,6 +24,7 @@ from netrev.findings.finding import Place, Sentence, sentences_of
 from netrev.recording.where import SourceLines
 from netrev_go import cli
 from netrev_go.cli import ExitStatus
+from netrev_go.go_command import build_errors
 from netrev_go.go_command.running import FROM_THE_TERMINAL, GoRunner, RunLimits
 from netrev_go.go_command.toolchain import Go
 from netrev_go.go_test_results import Recordings, file_name, short_name
@@ -37,9 +38,11 @@ from netrev_go.steps.forms import Cause, TestResult
 from netrev_go.steps.report import Conversion, Shown
 from netrev_go.steps.scopes_of_tests import goroutines_of, sockets_of
 from tests.logs.test_go_converting import Points
+from tests.support.stubs import stub
 
 from .test_go_kept_runs import PYTHON, Run, restore_signals
 
+Captured, Patch = pytest.CaptureFixture[str], pytest.MonkeyPatch
 MAIN, RED, PART, GREEN, CHILD = 1, 10, 11, 20, 12  # goroutines
 PACKAGE = "example.org/toy/v2"
 # The main goroutine opens a socket, and so do TestRed, its subtest in a goroutine of its own, and TestGreen, which runs
@@ -331,7 +334,7 @@ sqlite3.c:3:1: note: declared here
 """What Go prints to standard error about packages that it can't load, build or vet, and about one that it can."""
 
 
-def test_a_package_that_go_cannot_build_is_in_each_form(package: Tested, capfd: pytest.CaptureFixture[str]) -> None:
+def test_a_package_that_go_cannot_build_is_in_each_form(package: Tested, capfd: Captured) -> None:
     (package.folder / "errors").write_text(ERRORS)
     words = ("--json", "a.json", "--junit", "a.xml", "--github", "test", "./...")
     returned, out, error = package.told(*words, does="cat errors >&2")
@@ -354,6 +357,12 @@ def test_a_package_that_go_cannot_build_is_in_each_form(package: Tested, capfd: 
     properties, message = as_github_reads(next(line for line in out.splitlines() if "broken" in line))
     assert properties == {"file": "broken/b.go", "line": "3", "title": "example.org/p/broken [build failed]"}
     assert message == "unbuilt\nbroken/b.go:3:19: too many return values\n    have (number)"
+
+
+def test_what_go_prints_at_its_end_is_passed_on(package: Tested, monkeypatch: Patch, capfd: Captured) -> None:
+    monkeypatch.setattr(build_errors, "select", stub(select=lambda *_: time.sleep(0.2)))
+    assert package.told("--json", "a.json", "test", ".", status=0, does="echo late >&2")[0] == 0
+    assert capfd.readouterr().err == "late\n"
 
 
 def test_if_go_fails_before_any_test_its_error_is_in_each_form(package: Tested) -> None:
