@@ -22,6 +22,8 @@ from netrev_go.log import source_lines
 from netrev_go.steps import goroutine_records
 from netrev_go.steps.goroutine_records import Everybody
 
+from tests.support.stubs import raising
+
 from .test_go_line_reader import elf
 
 Patch = pytest.MonkeyPatch
@@ -212,6 +214,13 @@ def test_no_run_follows_a_cancelled_one(is_cancelled: bool, tmp_path: Path, monk
     run = run_of(tmp_path, Runner(0, is_cancelled), monkeypatch)
     assert run.once(go_test.Round(0, None, 0)) == 0
     assert run.is_last is is_cancelled and (tmp_path / "new/here").exists()
+
+
+def test_a_folder_that_cannot_be_made_ends_no_run(tmp_path: Path, monkeypatch: Patch) -> None:
+    (tmp_path / "new").mkdir()
+    run = run_of(tmp_path, Runner(0, False), monkeypatch)
+    monkeypatch.setattr(Path, "mkdir", raising(OSError))
+    assert run.once(go_test.Round(0, None, 0)) == 0
 
 
 @pytest.mark.parametrize(

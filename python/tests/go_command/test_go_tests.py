@@ -42,7 +42,8 @@ from tests.support.stubs import stub
 
 from .test_go_kept_runs import PYTHON, Run, restore_signals
 
-Captured, Patch = pytest.CaptureFixture[str], pytest.MonkeyPatch
+Captured = pytest.CaptureFixture[str]
+Patch = pytest.MonkeyPatch
 MAIN, RED, PART, GREEN, CHILD = 1, 10, 11, 20, 12  # goroutines
 PACKAGE = "example.org/toy/v2"
 # The main goroutine opens a socket, and so do TestRed, its subtest in a goroutine of its own, and TestGreen, which runs
