@@ -63,8 +63,8 @@ def mapped_log(process: int) -> ProcessLog | None:
         mapped = mappings(process)
     except PermissionError:
         raise RecorderError(messages.PROCESS_IS_PROTECTED.format(process=process)) from None
-    except OSError as fault:
-        raise RecorderError(messages.PROCESS_IS_HIDDEN.format(process=process, why=fault.strerror)) from None
+    except OSError:
+        raise ProcessEndedError(messages.NO_PROCESS.format(process=process)) from None
     is_log = re.compile(rf".*\.{number}(\.\d+)?({re.escape(REMOVED)})?")
     for mapping in mapped:
         if found := UNWRITTEN.fullmatch(mapping.path):
@@ -116,9 +116,12 @@ def place_of(process: int, mapping: Mapping) -> tuple[pathlib.Path, int | None]:
     places = (pathlib.Path(mapping.path), pathlib.Path(f"/proc/{process}/root{mapping.path}"))
     here, there = map(status_of, places)
     # (some file systems have another device in /proc/PID/maps)
-    is_here = here and ((here.st_dev, here.st_ino) == mapping.file or not there or os.path.samestat(here, there))
-    status = here if is_here or not there else there
-    return places[0 if status is here else 1], status.st_size if status else None
+    is_here = here and (
+        (here.st_dev, here.st_ino) == mapping.file
+        or (os.path.samestat(here, there) if there else here.st_ino == mapping.file[1])
+    )
+    status = here if is_here else there
+    return places[0 if is_here or not (here or there) else 1], status.st_size if status else None
 
 
 def status_of(path: pathlib.Path) -> os.stat_result | None:

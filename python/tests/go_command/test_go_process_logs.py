@@ -23,6 +23,7 @@ from netrev_go.log.notes import PARKED
 from netrev_go.log.points import Point, PointKind
 from netrev_go.steps import report
 from tests.support.go_stand_in import STORED, wait_until
+from tests.support.stubs import stub
 
 from .test_go_stuck_calls import WORD, log_with, row
 
@@ -77,7 +78,7 @@ def started(path: Path, cleanups: ExitStack, does: str, *before: str) -> int:
     [
         ("", r"writes no log: build it with `.*netrev-go build` and start it with NETREV_LOG=PATH"),
         ("unwritten('netrev-unwritten.28')", r"couldn't write its log {path}\.{process}: No space left on device\. Correct that"),
-        ("unwritten('netrev-unwritten.17')", r"couldn't write its log {path}\.{process}: it replaced its program too often\."),
+        ("unwritten('netrev-unwritten.17')", r"couldn't write its log {path}\.{process}: too many logs with its number exist\."),
         ("unwritten('netrev-secure')", r"records nothing, because it has privileges that its caller may lack"),
         ("log(own, text); os.unlink(own)", r"its log {path}\.{process} was removed\. Start the program again"),
         (EMPTIED, r"its log {path}\.{process} was truncated, or its device failed; recording ended then"),
@@ -126,8 +127,8 @@ def test_what_is_left_of_a_log_is_converted(
 
 def test_a_process_that_was_just_started_is_waited_for(path: Path, cleanups: ExitStack, monkeypatch: Patch) -> None:
     """It makes its log a moment after its start, and writes the header a moment later."""
-    monkeypatch.setattr(process_logs, "STARTING", 30.0)
-    late = "open(path + '.here', 'x').close()\ntime.sleep(0.1); log(own, bytes(page)); time.sleep(0.1); mapped[0][0] = 1; time.sleep(60)"
+    monkeypatch.setattr(process_logs, "STARTING", 5.0)
+    late = "open(path + '.here', 'x').close()\ntime.sleep(0.1); log(own, bytes(page)); time.sleep(0.5); mapped[0][0] = 1; time.sleep(60)"
     process = started(path, cleanups, late)
     assert log_of_process(process) == ProcessLog(Path(f"{path}.{process}"))
     assert Path(f"{path}.{process}").read_bytes()[:1] == b"\1"
@@ -160,6 +161,24 @@ def test_a_process_in_a_container_is_recorded(
     assert cli.main(["-o", "now", "snapshot", str(process)]) == 0
     assert Path("now.jsonl").read_text() == STORED.with_suffix(".jsonl").read_text()
     assert "now.jsonl: " in capsys.readouterr().err
+
+
+@pytest.mark.parametrize(
+    "here, there, is_here",
+    [
+        ((1, 7), None, True), ((1, 7), (2, 7), True), ((2, 7), (2, 7), True), ((2, 7), None, True), (None, None, True), (None, (1, 7), False),
+        ((1, 8), (1, 7), False), ((2, 7), (3, 7), False), ((1, 8), None, False),
+    ],
+)  # fmt: skip
+def test_where_a_mapped_file_is(
+    here: tuple[int, int] | None, there: tuple[int, int] | None, is_here: bool, monkeypatch: Patch
+) -> None:
+    """Each file has a device and an inode, or doesn't exist. Some file systems have another device in /proc/PID/maps."""
+    files = {Path("/a.5"): here, Path("/proc/5/root/a.5"): there}
+    status = {path: file and stub(st_dev=file[0], st_ino=file[1], st_size=3) for path, file in files.items()}
+    monkeypatch.setattr(process_logs, "status_of", status.get)
+    path, size = process_logs.place_of(5, running.Mapping(8_192, (1, 7), "/a.5"))
+    assert (path, size) == (list(files)[not is_here], 3 if status[path] else None)
 
 
 @pytest.mark.parametrize(

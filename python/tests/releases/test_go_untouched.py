@@ -16,7 +16,7 @@ RELEASE = "1.27"
 UNRECORDED = {
     "no file may grow": "`ulimit -f` limits the size of its files",
     "small files": "`ulimit -f` limits the size of its files",
-    "many programs": "it replaced its program too often",
+    "many programs": "too many logs with its number exist",
     "another user": "Permission denied",
     "another user works": "Permission denied",
 }
