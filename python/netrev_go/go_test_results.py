@@ -84,7 +84,8 @@ class Recordings:
             self.of_each(log, tests, self.wanted(tests))
 
     def take_errors(self, text: str, has_run: bool) -> None:
-        """Stores which packages Go couldn't build, from its standard error in a run in which it ran tests or none."""
+        """Stores which packages Go couldn't build in a run, from its standard error. `has_run` is whether a test
+        program ran."""
         ran = {package for package, _ in self.told} | ({NO_PACKAGE} if has_run else set())
         for package, lines in unbuilt_in(text).items():
             if package not in ran:

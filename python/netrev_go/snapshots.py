@@ -16,7 +16,7 @@ from netrev.text.plain import plain
 
 from .go_command.line_reader import line_reader
 from .go_command.outputs import base_name, look, numbered
-from .go_command.process_logs import ProcessEndedError, ProcessLog, log_of_process, mapped_log
+from .go_command.process_logs import ProcessEndedError, ProcessLog, log_of_process, mapped_log, start_of
 from .go_command.status import ExitStatus
 from .go_command.toolchain import Go, RecorderError
 from .log.logfile import HEADER_BYTES, ROW_WORDS, WAITER_WORDS, WORD, Header, NotALogError, stack_at
@@ -151,7 +151,7 @@ def record_now(
 def watch(options: argparse.Namespace, go: Go | None, recording_options: RecordingOptions, known: list[object]) -> int:
     """Makes a recording of a process when one of its calls has waited as long as --stuck says. If the process executes
     another program, its new log is watched."""
-    log = log_of_process(options.pid)
+    log, start = log_of_process(options.pid), start_of(options.pid)
     look(base_name(options.o, "snapshot"), "")
     if not log.fault:
         complain(messages.WATCHING.format(process=options.pid))
@@ -160,7 +160,9 @@ def watch(options: argparse.Namespace, go: Go | None, recording_options: Recordi
             if found := first_stuck(options, log, go):
                 recording_options = replace(recording_options, first=found.word, failed=True)
                 break
-            log = log_of_process(options.pid)
+            log, began = log_of_process(options.pid), start_of(options.pid)
+            if began != start:
+                raise ProcessEndedError  # and another process has its number
             if not log.fault:
                 complain(messages.PROGRAM_IS_REPLACED.format(process=options.pid, log=log.path))
     except ProcessEndedError:

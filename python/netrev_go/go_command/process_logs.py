@@ -86,6 +86,15 @@ def number_inside(process: int) -> int:
     return int(fields.get("NStgid", fields["Tgid"]).split()[-1])
 
 
+def start_of(process: int) -> str:
+    """When a process was started, in clock ticks since the system was. Another process that has its number later was
+    started later."""
+    try:
+        return pathlib.Path(f"/proc/{process}/stat").read_text(errors="replace").rpartition(")")[2].split()[19]
+    except OSError:
+        raise ProcessEndedError(messages.NO_PROCESS.format(process=process)) from None
+
+
 def refuse(process: int, number: int, error: str | None) -> NoReturn:
     """Raises RecorderError with the reason why a process writes no log: this error, or none in secure mode."""
     if error is None:

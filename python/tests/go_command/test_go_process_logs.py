@@ -182,6 +182,26 @@ def test_where_a_mapped_file_is(
 
 
 @pytest.mark.parametrize(
+    "pages, length, has_ended",
+    [(1, 9 * 4096, True), (1, 0, True), (2, 8192, False), (3, 8192, False), (4, 8193, False), (4, 8192, False), (4, 8191, True), (5, None, False)],
+)  # fmt: skip
+def test_a_log_that_is_shorter_than_its_mapping_has_ended(
+    pages: int, length: int | None, has_ended: bool, monkeypatch: Patch
+) -> None:
+    """The mapping may have a page more than the log, which may end within a page."""
+    monkeypatch.setattr(process_logs, "place_of", lambda *_: (Path("/a.5"), length))
+    log = process_logs.log_at(5, running.Mapping(4096, (1, 7), "/a.5"), pages * 4096)
+    assert bool(log.fault) is has_ended
+
+
+def test_when_a_process_was_started() -> None:
+    ticks = int(process_logs.start_of(os.getpid())) / os.sysconf("SC_CLK_TCK")
+    assert 0 < time.clock_gettime(time.CLOCK_BOOTTIME) - ticks < 86_400
+    with pytest.raises(process_logs.ProcessEndedError, match="no process 99999999"):
+        process_logs.start_of(99_999_999)
+
+
+@pytest.mark.parametrize(
     "path, is_log",
     [
         ("/tmp/log.7", True), ("/tmp/my logs/a  b.7", True), ("/tmp/log.7.2", True), ("/tmp/log.7.345", True), ("/tmp/log.77", False), ("/tmp/log.8", False),
@@ -214,9 +234,11 @@ def waiting(goroutine: int, since: int) -> bytes:
     return log_with([row(WORD, (0, 0, 0, 0), (PARKED, goroutine, 0, since))], [], points)
 
 
+@pytest.mark.parametrize("is_same", [True, False])
 def test_the_next_program_of_a_process_is_watched(
-    path: Path, cleanups: ExitStack, monkeypatch: Patch, capsys: Output
+    is_same: bool, path: Path, cleanups: ExitStack, monkeypatch: Patch, capsys: Output
 ) -> None:
+    """If another process has the number meanwhile, the watched process has ended."""
     path.with_name("log.text").write_bytes(waiting(41, time.clock_gettime_ns(time.CLOCK_MONOTONIC)))
     path.with_name("log.next").write_bytes(waiting(42, 1))
     script = (
@@ -227,8 +249,13 @@ def test_the_next_program_of_a_process_is_watched(
     path.with_name("log.script").write_text(MAPS + script)
     process = started(path, cleanups, script)
     when_watching(Path("go").touch, monkeypatch)
+    starts = iter("aa" if is_same else "ab")
+    monkeypatch.setattr(snapshots, "start_of", lambda process: next(starts))
     cli.main(["-o", "now", "watch", str(process), "--stuck", "30s"])
     errors = capsys.readouterr().err.splitlines()
+    if not is_same:
+        assert errors[1:] == [f"netrev-go: process {process} has ended, and no call waited that long"]
+        return
     assert (
         errors[1]
         == f"netrev-go: process {process} has executed another program, whose log is {path}.{process}.2; watching that"
