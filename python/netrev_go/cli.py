@@ -14,8 +14,9 @@ from netrev.system.command_lines import command
 
 from .doctor import doctor
 from .go_command.outputs import base_name, look, numbered
+from .go_command.process_logs import ProcessLog, log_of_process
 from .go_command.run_folders import claim
-from .go_command.running import GoRunner, limits_of, log_of_process, logs_folder, relative_to_folder, shell_status
+from .go_command.running import GoRunner, limits_of, logs_folder, relative_to_folder, shell_status
 from .go_command.status import ExitStatus
 from .go_command.toolchain import Go, RecorderError, find_go
 from .go_test import record_tests
@@ -87,21 +88,23 @@ def go_if_any() -> Go | None:
 
 def convert_log(options: argparse.Namespace) -> int:
     """Makes recordings of logs. A log that can't be converted doesn't affect the others."""
-    logs = [pathlib.Path(word) for word in options.words_of_go]
+    logs = [ProcessLog(pathlib.Path(word)) for word in options.words_of_go]
     written = len(logs)  # the place of the log that a process writes
     if options.pid is not None:
         logs.append(log_of_process(options.pid))
     if not logs:
         print(messages.NO_LOG_GIVEN, file=sys.stderr)
         return ExitStatus.USAGE
-    base = base_name(options.o, (logs[0].name if len(logs) == 1 else "") or "recording")
+    base = base_name(options.o, (logs[0].path.name if len(logs) == 1 else "") or "recording")
     go = go_if_any()
     status: int = ExitStatus.DONE
     for index, log in enumerate(logs, 1):
         KNOWN.clear()
-        saying = ReportPrinter([], stream=sys.stdout)
+        saying, is_written = ReportPrinter(log.head(), stream=sys.stdout), index > written
         try:
-            outcome = convert(log, numbered(base, index), go, wish_of(options), KNOWN, saying.hear, index > written)
+            outcome = convert(
+                log.path, numbered(base, index), go, wish_of(options), KNOWN, saying.hear, is_written and not log.fault
+            )
         except OSError as fault:
             complain(unwritten(numbered(base, index), fault))
             status = ExitStatus.TROUBLE

@@ -3,6 +3,7 @@
 from __future__ import annotations
 
 import argparse
+import contextlib
 import itertools
 import os
 import pathlib
@@ -18,13 +19,16 @@ from netrev.text.files import written_whole
 from netrev.text.plain import plain
 from netrev.text.plurals import counted
 
+from .go_command.build_errors import CopiedErrors
 from .go_command.linking import kept
 from .go_command.outputs import base_name, check_folder
 from .go_command.run_folders import claim
 from .go_command.running import (  # fmt: skip
+    SHORT_GRACE,
     GoRunner,
     limits_of,
     logs_folder,
+    logs_in,
     relative_to_folder,
     shell_status,
     still_written,
@@ -151,12 +155,17 @@ class GoRun:
         limits = replace(limits_of(self._options), processors=test_round.processors)
         is_whole, running = False, list[pathlib.Path]()
         try:
-            runner = GoRunner(self._command, folder, limits, test_round.delays)
+            is_read = self._options.json or self._options.junit or self._options.github
+            errors = CopiedErrors() if is_read else None
+            runner = GoRunner(self._command, folder, limits, test_round.delays, errors)
             status = shell_status(runner.wait(self._so_far(folder)))
+            printed = errors.text(SHORT_GRACE) if errors else ""
             if status and test_round.words() != "run 1":
                 say([messages.RUN_FAILED.format(run=test_round.words())])
             running = still_written(folder)
             is_whole = self._take(folder, status != 0)
+            if printed and status:
+                self._recordings.take_errors(printed, bool(logs_in(folder)))
             self.is_last = self.is_last or runner.is_cancelled()
             return status
         finally:
@@ -164,7 +173,8 @@ class GoRun:
 
     def _so_far(self, folder: pathlib.Path) -> Callable[[], None]:
         def make() -> None:
-            self._recordings.base.mkdir(parents=True, exist_ok=True)
+            with contextlib.suppress(OSError):  # then each recording has an error
+                self._recordings.base.mkdir(parents=True, exist_ok=True)
             making.so_far()
 
         making = RecordingMaker(folder, self._recordings.base / SO_FAR, self._go, self._wish)
@@ -197,12 +207,13 @@ def tell(options: argparse.Namespace, recordings: Recordings, results: TestResul
             ]
         lines += [plain(f"  recordings are in {recordings.base}")] if is_kept else []
         say(lines)
+    tests += recordings.unbuilt.values()
     if options.json:
         put(options.json, forms.json_lines(tests), results)
     if options.junit:
         put(options.junit, forms.junit(tests), results)
-    if options.github and red:
-        say(forms.github_lines(tests), sys.stdout)
+    if options.github and (annotations := forms.github_lines(tests)):
+        say(annotations, sys.stdout)
 
 
 def put(name: str, text: str, results: TestResults) -> None:

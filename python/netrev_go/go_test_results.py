@@ -20,6 +20,7 @@ from netrev.system.command_lines import PACKAGES, file_word
 from netrev.system.program_path import BUILT, netrev_program
 from netrev.text.plain import plain
 
+from .go_command.build_errors import NO_PACKAGE, unbuilt_in
 from .go_command.outputs import LONGEST_ENDING, numbered
 from .go_command.running import logs_in, shell_status
 from .go_command.toolchain import Go
@@ -27,7 +28,7 @@ from .log.logfile import NotALogError, read_log
 from .log.tests_in_log import Ran, Tests, of_log
 from .recordings import ReportPrinter, complain, say, unwritten
 from .steps.conversion import ReadLog, RecordingOptions, converted
-from .steps.forms import TestResult
+from .steps.forms import TestResult, unbuilt
 from .steps.report import Conversion, Hear, unheard
 
 MAJOR = re.compile(r"v\d+\Z")
@@ -65,6 +66,7 @@ class Recordings:
         self.base, self._go, self._wish, self._keeps_all = base, go, options, keeps_all
         self._is_page_wanted = is_page_wanted
         self.told: dict[tuple[str, str], TestResult] = {}
+        self.unbuilt: dict[str, TestResult] = {}  # the packages that Go couldn't build
         self._names: set[pathlib.Path] = set()  # the file names of the recordings
         self._short: dict[str, str] = {}  # the package to which each short name belongs
         self.all_recorded = True  # whether everything was recorded that should be
@@ -80,6 +82,15 @@ class Recordings:
             if failed and not is_known:
                 self.whole(log, tests)
             self.of_each(log, tests, self.wanted(tests))
+
+    def take_errors(self, text: str, has_run: bool) -> None:
+        """Stores which packages Go couldn't build in a run, from its standard error. `has_run` is whether a test
+        program ran."""
+        ran = {package for package, _ in self.told} | ({NO_PACKAGE} if has_run else set())
+        for package, lines in unbuilt_in(text).items():
+            if package not in ran:
+                result = self.unbuilt.setdefault(package, unbuilt(package, lines))
+                result.runs, result.failed = result.runs + 1, result.failed + 1
 
     def count(self, tests: Iterable[Ran]) -> None:
         for test in tests:

@@ -41,7 +41,7 @@ def offer() -> None:
 
 def recover(options: argparse.Namespace, base: pathlib.Path, go: Go | None, recording_options: RecordingOptions) -> int:
     """Makes recordings of all interrupted runs, and removes the logs whose recordings netrev accepts."""
-    look(base)
+    look(base, "")
     runs = [run for run in left_runs() if take_over(run)]
     if not runs:
         say([messages.NONE_INTERRUPTED])

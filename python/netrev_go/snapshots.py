@@ -16,14 +16,14 @@ from netrev.text.plain import plain
 
 from .go_command.line_reader import line_reader
 from .go_command.outputs import base_name, look, numbered
-from .go_command.running import log_of_process, writes
+from .go_command.process_logs import ProcessEndedError, ProcessLog, log_of_process, mapped_log, start_of
 from .go_command.status import ExitStatus
 from .go_command.toolchain import Go, RecorderError
 from .log.logfile import HEADER_BYTES, ROW_WORDS, WAITER_WORDS, WORD, Header, NotALogError, stack_at
 from .log.notes import PARKED
 from .log.points import Log
 from .log.source_lines import Calls, SourceRoots, lines_of
-from .recordings import ReportPrinter, complain, say
+from .recordings import ReportPrinter, complain, say, unwritten
 from .steps.conversion import RecordingOptions, convert, program_of
 from .steps.report import line_of
 from .steps.where import own_line
@@ -126,33 +126,70 @@ def snapshot(
     options: argparse.Namespace, go: Go | None, recording_options: RecordingOptions, known: list[object]
 ) -> int:
     """Makes a recording of a running process at once."""
-    base = base_name(options.o, "snapshot")
-    look(base)
-    saying = ReportPrinter([])
-    outcome = convert(log_of_process(options.pid), numbered(base, 1), go, recording_options, known, saying.hear, True)
+    look(base_name(options.o, "snapshot"), "")
+    return record_now(log_of_process(options.pid), options, go, recording_options, known)
+
+
+def record_now(
+    log: ProcessLog,
+    options: argparse.Namespace,
+    go: Go | None,
+    recording_options: RecordingOptions,
+    known: list[object],
+) -> int:
+    """Makes a recording of a log that a process writes."""
+    name, saying = numbered(base_name(options.o, "snapshot"), 1), ReportPrinter(log.head())
+    try:
+        outcome = convert(log.path, name, go, recording_options, known, saying.hear, not log.fault)
+    except OSError as fault:
+        complain(unwritten(name, fault))
+        return ExitStatus.TROUBLE
     saying.rest(outcome.lines)
     return ExitStatus.DONE if outcome.taken else ExitStatus.REFUSED
 
 
 def watch(options: argparse.Namespace, go: Go | None, recording_options: RecordingOptions, known: list[object]) -> int:
-    """Makes a recording of a process when one of its calls has waited as long as --stuck says."""
-    log = log_of_process(options.pid)
-    look(base_name(options.o, "snapshot"))
+    """Makes a recording of a process when one of its calls has waited as long as --stuck says. If the process executes
+    another program, its new log is watched."""
+    log, start = log_of_process(options.pid), start_of(options.pid)
+    look(base_name(options.o, "snapshot"), "")
+    if not log.fault:
+        complain(messages.WATCHING.format(process=options.pid))
+    try:
+        while not log.fault:
+            if found := first_stuck(options, log, go):
+                recording_options = replace(recording_options, first=found.word, failed=True)
+                break
+            log, began = log_of_process(options.pid), start_of(options.pid)
+            if began != start:
+                raise ProcessEndedError  # and another process has its number
+            if not log.fault:
+                complain(messages.PROGRAM_IS_REPLACED.format(process=options.pid, log=log.path))
+    except ProcessEndedError:
+        complain(messages.NO_LONG_WAIT.format(process=options.pid))
+        return ExitStatus.DONE
+    return record_now(log, options, go, recording_options, known)
+
+
+def first_stuck(options: argparse.Namespace, log: ProcessLog, go: Go | None) -> SocketWait | None:
+    """Waits until one of a process's calls has waited for too long; None if the process has another log now, or can't
+    use this log any more."""
     pause = min(max(options.stuck / LOOKS, OFTENEST), SELDOMEST)
     try:
-        with log.open("rb", buffering=0) as file:
+        with log.path.open("rb", buffering=0) as file:
             header = Header(file.read(HEADER_BYTES))
             if not header.rows:
-                raise RecorderError(messages.NO_TABLE.format(log=plain(str(log))))
-            watching = Watch(log, file, header, go)
-            say([f"netrev-go: watching process {options.pid}; Ctrl-C ends that"])
-            while writes(options.pid, log):
+                raise RecorderError(messages.NO_TABLE.format(log=plain(str(log.path))))
+            watching = Watch(log.path, file, header, go)
+            while mapped_log(options.pid) == log:
                 found = watching.stuck(options.stuck, options.writes)
                 if found:
                     say([plain(watching.words(found))])
-                    return snapshot(options, go, replace(recording_options, first=found.word, failed=True), known)
+                    return found
                 time.sleep(pause)
+            return None
     except (OSError, NotALogError) as fault:
-        raise RecorderError(messages.LOG_UNREADABLE.format(log=plain(str(log)), why=fault)) from None
-    complain(messages.NO_LONG_WAIT.format(process=options.pid))
-    return ExitStatus.DONE
+        if mapped_log(options.pid) != log:
+            return None
+        why = fault.strerror if isinstance(fault, OSError) else fault
+        raise RecorderError(messages.LOG_UNREADABLE.format(log=plain(str(log.path)), why=why)) from None

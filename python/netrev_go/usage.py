@@ -78,7 +78,8 @@ USAGES = {
         "netrev-go [OPTIONS] watch PID",
         "Waits until a call of the program's has waited at a socket for as long as --stuck says, then makes snapshot.jsonl as `snapshot`\n"
         "does, and ends. Calls that accept connections don't count, nor do reads in Go's own goroutines, as of idle connections. A read\n"
-        "of the program's counts, also if it waits for a request that needn't come: --writes leaves out all reads.",
+        "of the program's counts, also if it waits for a request that needn't come: --writes leaves out all reads. If the\n"
+        "process executes another program, that program is watched.",
         "Record process 4711 when a call has waited for ten seconds:\n\n  netrev-go watch 4711 --stuck 10s",
         ("files", "watch", "recording"),
     ),

@@ -18,9 +18,10 @@ BUILT = (
 
 # Names of recordings.
 NOT_A_NAME = "{name!r} can't be the name of a recording: -o NAME makes NAME{ending}"
-UNWRITABLE = "{path} can't be written: {why}. Nothing was run"
-EXISTS = "{path} exists and can't be overwritten: use -o to name another recording. Nothing was run"
-NOT_A_FOLDER = "{path} exists and isn't a folder: use -o to name another folder. Nothing was run"
+UNWRITABLE = "{path} can't be written: {why}"
+EXISTS = "{path} exists and can't be overwritten: use -o to name another recording"
+NOT_A_FOLDER = "{path} exists and isn't a folder: use -o to name another folder"
+NOTHING_WAS_RUN = ". Nothing was run"  # after one of these three
 
 # Logs, before and after a run.
 NO_ROOM = (
@@ -28,13 +29,23 @@ NO_ROOM = (
     "--points makes the log smaller"
 )
 NO_LOGS_IN = "no log can be made in {folder}: {why}. Nothing was run"
-PROCESS_IS_HIDDEN = "can't read which files process {process} has mapped: {why}"
+NO_PROCESS = "no process {process}"
+PROCESS_HAS_ENDED = "process {process} has ended"
+PROCESS_IS_PROTECTED = "no permission to read process {process}: run netrev-go as the user of that process, or as root"
 PROCESS_HAS_NO_LOG = (
     "process {process} writes no log: build it with `{netrev_go} build` and start it with NETREV_LOG=PATH, "
     "or run it with `{netrev_go} run`"
 )
+PROCESS_IS_SECURE = (
+    "process {process} records nothing, because it has privileges that its caller may lack (set-user-ID or file "
+    "capabilities): start it without them"
+)
+LOG_UNWRITTEN = "process {process} couldn't write its log{log}: {why}. Correct that, and start the program again"
+LOG_IS_REMOVED = "process {process}: its log {log} was removed. Start the program again to record it"
+LOG_HAS_ENDED = "process {process}: its log {log} was truncated, or its device failed; recording ended then"
+PROGRAM_IS_REPLACED = "process {process} has executed another program, whose log is {log}; watching that"
 FILE_SIZE_IS_LIMITED = "`ulimit -f` limits the size of its files"
-TOO_MANY_PROGRAMS = "the 1,000 names of its log are taken"
+TOO_MANY_PROGRAMS = "too many logs with its number exist"
 MEMORY_IS_LIMITED = "`ulimit -v` limits its memory"
 PROCESS_UNRECORDED = "process {process} couldn't write a log ({why}) and isn't recorded"
 PROCESSES_UNRECORDED = "{count} processes couldn't write a log ({why}) and aren't recorded"
@@ -52,6 +63,7 @@ OPENED_NONE = "{processes} opened no socket"
 
 NO_TABLE = "{log} has no table of waiting goroutines: build the program with this netrev-go"
 LOG_UNREADABLE = "{log} can't be read: {why}"
+WATCHING = "watching process {process}; Ctrl-C ends that"
 NO_LONG_WAIT = "process {process} has ended, and no call waited that long"
 
 # Runs that were interrupted before recordings were made.

@@ -31,8 +31,8 @@ def numbered(base: pathlib.Path, number: int) -> pathlib.Path:
     return base.with_name(base.name + (f"-{number}" if number > 1 else "") + RECORDING)
 
 
-def look(base: pathlib.Path) -> None:
-    """Raises RecorderError if a recording can't be written there now."""
+def look(base: pathlib.Path, more: str = messages.NOTHING_WAS_RUN) -> None:
+    """Raises RecorderError if a recording can't be written there now; `more` ends the message."""
     try:
         try_folder(base)
         with contextlib.suppress(FileNotFoundError):
@@ -40,11 +40,12 @@ def look(base: pathlib.Path) -> None:
         for ending in (RECORDING, LINES):
             check_links(base.with_name(base.name + ending))
     except OSError as fault:
-        raise RecorderError(messages.UNWRITABLE.format(path=f"{base}{RECORDING}", why=fault.strerror)) from None
+        path, why = f"{base}{RECORDING}", fault.strerror
+        raise RecorderError(messages.UNWRITABLE.format(path=path, why=why) + more) from None
     for ending in (RECORDING, LINES):
         name = base.with_name(base.name + ending)
         if name.exists() and not (name.is_file() and os.access(name, os.W_OK)):
-            raise RecorderError(messages.EXISTS.format(path=name))
+            raise RecorderError(messages.EXISTS.format(path=name) + more)
 
 
 def try_folder(base: pathlib.Path) -> None:
@@ -62,8 +63,9 @@ def check_folder(base: pathlib.Path) -> None:
     """Raises RecorderError if recordings can't be written into that folder, which may not exist yet."""
     try:
         if base.exists() and not base.is_dir():
-            raise RecorderError(messages.NOT_A_FOLDER.format(path=base))
+            raise RecorderError(messages.NOT_A_FOLDER.format(path=base) + messages.NOTHING_WAS_RUN)
         there = next(folder for folder in (base, *base.absolute().parents) if folder.is_dir())
         try_folder(there / base.name)
     except OSError as fault:
-        raise RecorderError(messages.UNWRITABLE.format(path=base, why=fault.strerror)) from None
+        why = messages.UNWRITABLE.format(path=base, why=fault.strerror) + messages.NOTHING_WAS_RUN
+        raise RecorderError(why) from None

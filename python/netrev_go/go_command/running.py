@@ -14,10 +14,11 @@ import tempfile
 import time
 from collections.abc import Callable
 from dataclasses import dataclass
+from typing import NamedTuple
 
 from netrev.messages import recorder as messages
-from netrev.system.command_lines import command
 
+from .build_errors import CopiedErrors
 from .toolchain import RecorderError
 
 MOST_POINTS = 2**20
@@ -27,9 +28,10 @@ LOGS = "log.[0-9]*"  # the same for a shell
 IN_MEMORY, PREFIX = "/dev/shm", "netrev-go-"
 GRACE, SHORT_GRACE = 3.0, 0.5
 LOOK = 0.05
-STARTING = 1.0  # seconds within which a program that was just started makes its log
 CANCELLING = (signal.SIGINT, signal.SIGTERM, signal.SIGQUIT, signal.SIGHUP)
 SIGNALS = (*CANCELLING, signal.SIGUSR1)
+# A line of /proc/PID/maps: begin and end, the device, the inode and the path of a mapped file.
+MAPPED = re.compile(r"^(\w+)-(\w+) \S+ \w+ (\w+):(\w+) (\d+) +(/.*)$", re.MULTILINE)
 FROM_THE_TERMINAL = 0x80  # the si_code of signals from the kernel itself, SI_KERNEL
 
 
@@ -124,10 +126,30 @@ def environment(folder: pathlib.Path, limits: RunLimits, delays: int = 0) -> dic
     return os.environ | settings
 
 
+class Mapping(NamedTuple):
+    """A part of a file that a process has mapped: its bytes, the file's device and inode, and the path, which ends in
+    ` (deleted)` if the file was removed."""
+
+    bytes: int
+    file: tuple[int, int]
+    path: str
+
+
+def mappings(process: int) -> list[Mapping]:
+    """The files that a process has mapped."""
+    maps = pathlib.Path(f"/proc/{process}/maps").read_bytes().decode("utf-8", "surrogateescape")
+    found = []
+    for begin, end, major, minor, inode, path in MAPPED.findall(maps):
+        device = os.makedev(int(major, 16), int(minor, 16))
+        found.append(Mapping(int(end, 16) - int(begin, 16), (device, int(inode)), path))
+    return found
+
+
 def writes(process: int, log: pathlib.Path) -> bool:
     """Whether the process still writes that log: its number may have been reused."""
+    path = os.path.realpath(log)
     try:
-        return os.path.realpath(log) in pathlib.Path(f"/proc/{process}/maps").read_text(errors="replace")
+        return any(mapping.path == path for mapping in mappings(process))
     except OSError:
         return False
 
@@ -148,14 +170,21 @@ class GoRunner:
     """Go's command, and the programs that it starts. Signals for netrev-go are queued until it checks them; signals for
     the command are not queued."""
 
-    def __init__(self, command: list[str], folder: pathlib.Path, limits: RunLimits, delays: int = 0) -> None:
+    def __init__(
+        self, command: list[str], folder: pathlib.Path, limits: RunLimits, delays: int = 0, errors: CopiedErrors | None = None
+    ) -> None:  # fmt: skip
         self.folder, self.limits = folder, limits
         self.began: dict[pathlib.Path, float] = {}
         self.told: set[pathlib.Path] = set()  # to quit
         self.cancelled = False
         self._signals = heeded()
         signal.pthread_sigmask(signal.SIG_BLOCK, self._signals)
-        self.process = subprocess.Popen(command, env=environment(folder, limits, delays), preexec_fn=unblock_signals)
+        self.process = subprocess.Popen(
+            command, env=environment(folder, limits, delays), preexec_fn=unblock_signals,
+            stderr=errors.to if errors else None,
+        )  # fmt: skip
+        if errors:
+            errors.start()
 
     def wait(self, so_far: Callable[[], None]) -> int:
         """Go's exit status. `so_far` is called when a recording is requested while the program runs."""
@@ -219,39 +248,3 @@ class GoRunner:
 def is_leader() -> bool:
     """Whether this process leads its session: if a terminal closes, only the leader gets the signal."""
     return os.getsid(0) == os.getpid()
-
-
-def log_of_process(process: int) -> pathlib.Path:
-    """The log that a running process writes. A process that was just started may not have a log yet, so this waits for
-    a second."""
-    until = time.monotonic() + STARTING
-    while True:
-        log = mapped_log(process)
-        if log and has_begun(log):
-            return log
-        if time.monotonic() > until:
-            break
-        time.sleep(STARTING / 50)
-    raise RecorderError(messages.PROCESS_HAS_NO_LOG.format(process=process, netrev_go=command("netrev-go")))
-
-
-def mapped_log(process: int) -> pathlib.Path | None:
-    """The log that a process has mapped."""
-    try:
-        maps = pathlib.Path(f"/proc/{process}/maps").read_text(errors="replace")
-    except OSError as fault:
-        raise RecorderError(messages.PROCESS_IS_HIDDEN.format(process=process, why=fault.strerror)) from None
-    for line in maps.splitlines():
-        path = line.split(maxsplit=5)[5:]
-        if path and re.search(rf"\.{process}(\.\d+)?\Z", path[0]):
-            return pathlib.Path(path[0])
-    return None
-
-
-def has_begun(log: pathlib.Path) -> bool:
-    """Whether a log has its header. A log that can't be read counts as begun, and its reader reports the reason."""
-    try:
-        with log.open("rb") as file:
-            return any(file.read(8))
-    except OSError:
-        return True

@@ -105,11 +105,6 @@ def converted(
         return Conversion(False, [f"{plain(str(read.path))}: {fault}"], isinstance(fault, NoSocketError))
     if known is not None:
         known += (read, recording)
-    lines = name.with_suffix(LINES)
-    forget_where(lines)
-    write(recording, name)
-    if options.words:
-        write_words(recording, name.with_suffix(WORDS))
     found = recording.everybody
     if test is not None:
         found = goroutines_of(test, found, read.tests.ran, recording.numbers)
@@ -120,12 +115,19 @@ def converted(
         calls = lines_of(log, used, program_of(read.path, log.program), line_reader(go), roots)
     has_lines = any(known.calls for known in calls.values())
     more = of_tests(recording, read.tests)
-    if has_lines or recording.orders is not None or more or recording.times:
-        everybody = everybody_of(recording, found, calls)
-        more += [{"tags": 1}] if recording.has_tags else []
-        write_where(
-            lines, recording.stacks, calls, recording.orders, recording.beside, more, recording.times, everybody
-        )
+
+    def write_others() -> None:
+        lines = name.with_suffix(LINES)
+        if options.words:
+            write_words(recording, name.with_suffix(WORDS))
+        if not (has_lines or recording.orders is not None or more or recording.times):
+            forget_where(lines)
+            return
+        everybody, tags = everybody_of(recording, found, calls), [{"tags": 1}] if recording.has_tags else []
+        facts = recording.orders, recording.beside, [*more, *tags], recording.times, everybody
+        write_where(lines, recording.stacks, calls, *facts)
+
+    write(recording, name, write_others)
     if any(recording.stacks) and not has_lines:
         recording.notes.append(messages.NO_LINES)
     return report(recording, name, calls, options.failed, hear)

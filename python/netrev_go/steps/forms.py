@@ -8,10 +8,12 @@ from dataclasses import asdict, dataclass, field
 from xml.etree import ElementTree
 
 from netrev.text.plain import plain
+from netrev_go.go_command.build_errors import place_in
 from netrev_go.log.tests_in_log import Ran, Went
 
 from .report import Conversion, Shown
 
+UNBUILT, BUILD = "unbuilt", "[build failed]"  # a package's status, and the name in place of a test's
 WORST = (Went.FAILED, Went.UNFINISHED, Went.PASSED, Went.SKIPPED)
 
 
@@ -73,6 +75,12 @@ class TestResult:
         self.causes = causes_in(outcome.shown)
 
 
+def unbuilt(package: str, lines: list[str]) -> TestResult:
+    """The result of a package that Go couldn't load, build or vet."""
+    file, line = place_in(lines) or (None, None)
+    return TestResult(package, BUILD, UNBUILT, file=file, line=line, says=[line.expandtabs(4) for line in lines])
+
+
 def causes_in(findings: list[Shown]) -> list[Cause]:
     """Each source line that the report's findings name, with the first line of the report that names it."""
     lines: dict[tuple[str, int], Cause] = {}
@@ -130,18 +138,18 @@ def junit(results: list[TestResult]) -> str:
 
 
 def counts(results: list[TestResult]) -> dict[str, str]:
-    how = [Went(result.status) for result in results]
+    how = [result.status for result in results]
     return {
         "tests": str(len(results)),
-        "failures": str(how.count(Went.FAILED)),
-        "errors": str(how.count(Went.UNFINISHED)),
-        "skipped": str(how.count(Went.SKIPPED)),
+        "failures": str(how.count(Went.FAILED.value)),
+        "errors": str(how.count(Went.UNFINISHED.value) + how.count(UNBUILT)),
+        "skipped": str(how.count(Went.SKIPPED.value)),
         "time": f"{sum(result.seconds for result in results):.6f}",
     }
 
 
 def add_case(suite: ElementTree.Element, result: TestResult) -> None:
-    """Adds a test. A failed test has a failure, and a test that never ended has an error."""
+    """Adds a test. A failed test has a failure; a test that never ended and an unbuilt package have an error."""
     words = {"classname": plain(result.package), "name": plain(result.test), "time": f"{result.seconds:.6f}"}
     case = ElementTree.SubElement(suite, "testcase", words)
     if result.status == Went.SKIPPED.value:

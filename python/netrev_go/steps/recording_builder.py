@@ -242,12 +242,15 @@ class Fitted:
         return [pair for pair in self.found.points if pair[1] in kept]
 
 
-def write(recording: NewRecording, name: pathlib.Path) -> None:
-    """Writes the recording atomically; raises an OSError that names the file if that fails."""
+def write(recording: NewRecording, name: pathlib.Path, write_others: Callable[[], object] = bool) -> None:
+    """Writes the recording atomically, after the call that writes the files beside it; raises an OSError that names the
+    file if either fails. An earlier recording of that name then stays."""
     with whole(name) as file:
         file.write(recording.header + "\n")
         for first in range(0, len(recording.lines), AT_ONCE):
             file.write("\n".join(map(str, recording.lines[first : first + AT_ONCE])) + "\n")
+        file.flush()
+        write_others()
 
 
 def write_words(recording: NewRecording, name: pathlib.Path) -> None:

@@ -15,11 +15,14 @@ from dev.recorder.readiness import Readiness
 from netrev.messages import recorder as messages
 from netrev_go import cli, doctor, go_test, go_test_results, options
 from netrev_go.go_command import outputs, status
+from netrev_go.go_command.process_logs import ProcessLog
 from netrev_go.go_command.toolchain import RecorderError
 from netrev_go.go_test_results import Recordings
 from netrev_go.log import source_lines
 from netrev_go.steps import goroutine_records
 from netrev_go.steps.goroutine_records import Everybody
+
+from tests.support.stubs import raising
 
 from .test_go_line_reader import elf
 
@@ -200,7 +203,10 @@ def run_of(folder: Path, runner: Runner, monkeypatch: Patch) -> go_test.GoRun:
     for name, fake in fakes.items():
         monkeypatch.setattr(go_test, name, fake)
     recordings = Made(base=folder / "new", all_recorded=True, take=lambda item, failed: None)
-    return go_test.GoRun(argparse.Namespace(points=1, keep=False), *cast(Any, (None, ["go", "test"], None, recordings)))
+    return go_test.GoRun(
+        argparse.Namespace(points=1, keep=False, json=None, junit=None, github=False),
+        *cast(Any, (None, ["go", "test"], None, recordings)),
+    )
 
 
 @pytest.mark.parametrize("is_cancelled", [True, False])
@@ -208,6 +214,13 @@ def test_no_run_follows_a_cancelled_one(is_cancelled: bool, tmp_path: Path, monk
     run = run_of(tmp_path, Runner(0, is_cancelled), monkeypatch)
     assert run.once(go_test.Round(0, None, 0)) == 0
     assert run.is_last is is_cancelled and (tmp_path / "new/here").exists()
+
+
+def test_a_folder_that_cannot_be_made_ends_no_run(tmp_path: Path, monkeypatch: Patch) -> None:
+    (tmp_path / "new").mkdir()
+    run = run_of(tmp_path, Runner(0, False), monkeypatch)
+    monkeypatch.setattr(Path, "mkdir", raising(OSError))
+    assert run.once(go_test.Round(0, None, 0)) == 0
 
 
 @pytest.mark.parametrize(
@@ -255,7 +268,7 @@ def test_only_the_log_of_a_process_is_still_written(
         written.append(is_written)
         return Made(lines=[], taken=True)
 
-    monkeypatch.setattr(cli, "log_of_process", lambda number: Path(f"log.{number}"))
+    monkeypatch.setattr(cli, "log_of_process", lambda number: ProcessLog(Path(f"log.{number}")))
     monkeypatch.setattr(cli, "go_if_any", lambda: None)
     monkeypatch.setattr(cli, "wish_of", lambda options: None)
     monkeypatch.setattr(cli, "convert", convert)

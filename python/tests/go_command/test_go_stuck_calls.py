@@ -6,16 +6,11 @@ import io
 import pathlib
 import re
 import struct
-import subprocess
-import sys
 import time
-from contextlib import ExitStack
 
 import pytest
 
 from dev.fuzz.generators.logs import binary
-from netrev_go.go_command.running import log_of_process
-from netrev_go.go_command.toolchain import RecorderError
 from netrev_go.log.logfile import HEADER_BYTES, Header, copy_of, log_of, read_log
 from netrev_go.log.notes import ARMED, PARKED
 from netrev_go.log.points import Point, PointKind
@@ -144,50 +139,6 @@ def test_a_process_has_a_number() -> None:
     for words in (["snapshot"], ["snapshot", "x"], ["snapshot", "7", "8"], ["snapshot", "7", "--stuck", "2s"]):
         with pytest.raises(SystemExit):
             of_a_process(parser().parse_args(words))
-
-
-# A program that makes its log a moment after its start, and writes the header a moment later.
-LATE = """
-import mmap, os, sys, time
-time.sleep(0.1)
-with open(f"{sys.argv[1]}.{os.getpid()}", "w+b") as file:
-    file.truncate(4096)
-    log = mmap.mmap(file.fileno(), 4096)
-time.sleep(0.1)
-log[0] = 1
-time.sleep(60)
-"""
-
-
-def started(cleanups: ExitStack, *words: str) -> int:
-    """A process that ends with the test."""
-    process = subprocess.Popen([sys.executable, "-c", *words])
-    cleanups.callback(process.wait)
-    cleanups.callback(process.kill)
-    return process.pid
-
-
-def test_one_that_was_just_started_is_waited_for(
-    folder: pathlib.Path, cleanups: ExitStack, monkeypatch: pytest.MonkeyPatch
-) -> None:
-    monkeypatch.setattr("netrev_go.go_command.running.STARTING", 30.0)
-    process = started(cleanups, LATE, f"{folder}/log")
-    log = log_of_process(process)
-    assert (log, log.read_bytes()[:1]) == (folder / f"log.{process}", b"\1")
-
-
-def test_one_without_a_log_has_to_be_built_for_it(cleanups: ExitStack) -> None:
-    with pytest.raises(
-        RecorderError, match="writes no log: build it with `.*netrev-go build` and start it with NETREV_LOG=PATH"
-    ):
-        log_of_process(started(cleanups, "import time; time.sleep(60)"))
-
-
-def test_one_that_has_ended_cannot_be_looked_at() -> None:
-    ended = subprocess.Popen(["true"])
-    ended.wait()
-    with pytest.raises(RecorderError, match="can't read which files process [0-9]+ has mapped: No such file"):
-        log_of_process(ended.pid)
 
 
 def test_a_copy_has_all_that_the_log_has(folder: pathlib.Path) -> None:

@@ -24,6 +24,7 @@ from netrev.findings.finding import Place, Sentence, sentences_of
 from netrev.recording.where import SourceLines
 from netrev_go import cli
 from netrev_go.cli import ExitStatus
+from netrev_go.go_command import build_errors
 from netrev_go.go_command.running import FROM_THE_TERMINAL, GoRunner, RunLimits
 from netrev_go.go_command.toolchain import Go
 from netrev_go.go_test_results import Recordings, file_name, short_name
@@ -37,9 +38,12 @@ from netrev_go.steps.forms import Cause, TestResult
 from netrev_go.steps.report import Conversion, Shown
 from netrev_go.steps.scopes_of_tests import goroutines_of, sockets_of
 from tests.logs.test_go_converting import Points
+from tests.support.stubs import stub
 
 from .test_go_kept_runs import PYTHON, Run, restore_signals
 
+Captured = pytest.CaptureFixture[str]
+Patch = pytest.MonkeyPatch
 MAIN, RED, PART, GREEN, CHILD = 1, 10, 11, 20, 12  # goroutines
 PACKAGE = "example.org/toy/v2"
 # The main goroutine opens a socket, and so do TestRed, its subtest in a goroutine of its own, and TestGreen, which runs
@@ -310,6 +314,64 @@ def test_each_form_is_read_as_its_consumer_does(monkeypatch: pytest.MonkeyPatch,
     assert properties["title"] == f"{PACKAGE} TestRed/a_part"
     assert (part["file"], part["line"]) == ("/else/a_test.go", 31)
     assert "\n    1. lost wake-up: 100%: step 3, so" in message
+
+
+ERRORS = """go: downloading example.org/x v1.2.0
+# example.org/p/cyc
+package example.org/p/cyc
+	imports example.org/p/cyc from c.go: import cycle not allowed
+# example.org/p/broken [example.org/p/broken.test]
+broken/b.go:3:19: too many return values
+	have (number)
+# example.org/p/vetted
+# [example.org/p/vetted]
+./v_test.go:6:2: fmt.Printf format %d has arg "x" of wrong type string
+# example.org/p/outside_test [example.org/p/outside.test]
+o_test.go:3: undefined: y
+# example.org/c
+a.go:5:10: warning: unused variable
+sqlite3.c:3:1: note: declared here
+"""
+"""What Go prints to standard error about packages that it can't load, build or vet, and about one that it can."""
+
+
+def test_a_package_that_go_cannot_build_is_in_each_form(package: Tested, capfd: Captured) -> None:
+    (package.folder / "errors").write_text(ERRORS)
+    words = ("--json", "a.json", "--junit", "a.xml", "--github", "test", "./...")
+    returned, out, error = package.told(*words, does="cat errors >&2")
+    assert (returned, capfd.readouterr().err) == (1, ERRORS)
+    assert "netrev-go: 4 tests, 1 run; 2 failed" in error
+    lines = [json.loads(line) for line in (package.folder / "a.json").read_text().splitlines()]
+    found = {line["package"]: line for line in lines if line["status"] == "unbuilt"}
+    assert {name: (line["file"], line["line"], line["test"], line["runs"]) for name, line in found.items()} == {
+        "example.org/p/cyc": (None, None, "[build failed]", 1),
+        "example.org/p/broken": ("broken/b.go", 3, "[build failed]", 1),
+        "example.org/p/vetted": ("v_test.go", 6, "[build failed]", 1),
+        "example.org/p/outside": ("o_test.go", 3, "[build failed]", 1),
+    }
+    assert found["example.org/p/broken"]["says"] == ["broken/b.go:3:19: too many return values", "    have (number)"]
+    top = ElementTree.parse(package.folder / "a.xml").getroot()
+    suite = next(suite for suite in top if suite.get("name") == "example.org/p/broken")
+    assert (top.get("errors"), suite.get("tests"), suite.get("errors"), suite.get("failures")) == ("4", "1", "1", "0")
+    assert (suite[0][0].tag, suite[0][0].get("message")) == ("error", "unbuilt")
+    assert suite[0][0].text == "broken/b.go:3:19: too many return values\n    have (number)"
+    properties, message = as_github_reads(next(line for line in out.splitlines() if "broken" in line))
+    assert properties == {"file": "broken/b.go", "line": "3", "title": "example.org/p/broken [build failed]"}
+    assert message == "unbuilt\nbroken/b.go:3:19: too many return values\n    have (number)"
+
+
+def test_what_go_prints_at_its_end_is_passed_on(package: Tested, monkeypatch: Patch, capfd: Captured) -> None:
+    monkeypatch.setattr(build_errors, "select", stub(select=lambda *_: time.sleep(0.2)))
+    assert package.told("--json", "a.json", "test", ".", status=0, does="echo late >&2")[0] == 0
+    assert capfd.readouterr().err == "late\n"
+
+
+def test_if_go_fails_before_any_test_its_error_is_in_each_form(package: Tested) -> None:
+    go = ("--junit", "a.xml", "test", "./...")
+    does = "echo 'go: cannot find main module' >&2"
+    for leaves, suites in (("rm $NETREV_LOG.*", ["go test"]), ("true", [PACKAGE])):
+        package.told(*go, does=f"{does}; {leaves}")
+        assert [suite.get("name") for suite in ElementTree.parse(package.folder / "a.xml").getroot()] == suites
 
 
 def test_what_cannot_go_together_is_told_before_anything_runs(package: Tested) -> None:

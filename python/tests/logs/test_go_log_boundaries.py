@@ -173,18 +173,6 @@ def test_the_status_of_recorded_tests(
     assert cli.record(options, cast(Any, Made(program="go"))) == ends
 
 
-@pytest.mark.parametrize(
-    "path, is_log",
-    [
-        ("/tmp/log.7", True), ("/tmp/my logs/a  b.7", True), ("/tmp/log.7.2", True), ("/tmp/log.77", False), ("/tmp/log.8", False), ("/tmp/log.7.x", False), ("", False),
-    ],
-)  # fmt: skip
-def test_the_log_that_a_process_has_mapped(path: str, is_log: bool, monkeypatch: Patch) -> None:
-    maps = f"7f00-7f01 r--p 00000000 00:00 0 \n7f02-7f03 rw-s 00000000 00:1a 2345                       {path}\n"
-    monkeypatch.setattr(Path, "read_text", lambda own, errors: maps)
-    assert running.mapped_log(7) == (Path(path) if is_log else None)
-
-
 def test_what_a_conversion_didn_t_print_yet_comes_at_its_end(monkeypatch: Patch, capsys: Output) -> None:
     def convert(
         log: Path, name: Path, go: object, options: object, known: object, hear: Callable[..., None], is_written: bool
@@ -287,7 +275,7 @@ def test_the_status_of_recovered_runs(statuses: str, ends: int, monkeypatch: Pat
         )
 
     fakes: dict[str, Callable[..., object]] = {
-        "look": folders.append, "left_runs": lambda: runs, "take_over": lambda run: True, "RecordingMaker": made,
+        "look": lambda base, more: folders.append(base), "left_runs": lambda: runs, "take_over": lambda run: True, "RecordingMaker": made,
     }  # fmt: skip
     for name, fake in fakes.items():
         monkeypatch.setattr(recovery, name, fake)

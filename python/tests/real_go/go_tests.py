@@ -170,6 +170,10 @@ def test_it_fails_as_go_does(package: Tested, words: tuple[str, ...]) -> None:
 def test_it_fails_as_go_does_if_the_package_does_not_compile(package: Tested) -> None:
     package.write("package p\n\nfunc f() { return 1 }\n", "other.go")
     assert package.common_status(".") != 0
+    package.call("--json", "a.json", "test", ".")
+    (result,) = map(json.loads, (package.folder / "a.json").read_text().splitlines())
+    found = [result[key] for key in ("package", "status", "file", "line")]
+    assert found == ["example.org/p", "unbuilt", "other.go", 3]
 
 
 def test_the_script_for_any_ci(package: Tested) -> None:

@@ -278,6 +278,31 @@ def test_a_process_that_runs_on(tool: Tool) -> None:
     assert "too short for a log" in tool.call("convert", log.name)[1]
 
 
+@pytest.mark.skipif(os.geteuid() != 0, reason="only root can make namespaces")
+def test_a_process_in_a_container(tool: Tool) -> None:
+    tool.write(HANGS)
+    assert tool.call("build", "-o", "prog", "main.go")[0] == 0
+    inside = tool.folder / "inside"
+    inside.mkdir()
+    words = [
+        "--pid",
+        "--mount",
+        "--fork",
+        "--kill-child",
+        "--mount-proc",
+        "sh",
+        "-c",
+        "mount -t tmpfs none inside && exec ./prog",
+    ]
+    outer = start(tool, "unshare", *words, NETREV_LOG=str(inside / "log"))
+    children = Path(f"/proc/{outer.pid}/task/{outer.pid}/children")
+    assert happens(lambda: Path(f"/proc/{children.read_text().strip()}/root{inside}/log.1").exists())
+    time.sleep(0.5)
+    _, output = tool.call("-o", "now", "snapshot", children.read_text().strip())
+    tool.check_recording(output, "now")
+    assert f"main.go:{READ_LINE}: " in output
+
+
 def test_a_signal_makes_a_recording_of_what_is_there(tool: Tool) -> None:
     tool.write(program('\tos.WriteFile("here", nil, 0600)\n\tb.Read(make([]byte, 1))', "os"))
     process = start(tool, str(TOOL), "-o", "s", "-n", "9", "run", "main.go")

@@ -2,6 +2,7 @@
 written elsewhere."""
 
 import ast
+import re
 import string
 from collections.abc import Iterator
 from functools import cache
@@ -12,6 +13,7 @@ import pytest
 
 PYTHON = Path(__file__).resolve().parents[2]
 FOLDER = "netrev/messages"
+QUOTED = r"^    (?: +\((.+)\)|netrev-go: (.+))$"
 TABLES = [
     f"{FOLDER}/{name}.py" for name in ("browsers", "editors", "lines", "recorder", "searches", "session", "texts")
 ]
@@ -136,6 +138,15 @@ def test_the_words_in_braces_are_filled_in() -> None:
         if isinstance(text, str)
     }
     assert filled and [use for use in filled if use.given != wanted[use.table, use.name]] == []
+
+
+def test_the_guides_quote_messages_as_they_are_printed() -> None:
+    """Notes in parentheses, and lines that begin with `netrev-go: `."""
+    texts = [text for text in table(f"{FOLDER}/recorder.py").values() if isinstance(text, str)]
+    patterns = [re.sub(r"\\{\w+\\}", ".+", re.escape(text)) for text in texts]
+    pages = sorted((PYTHON.parent / "docs/guide").glob("*.md"))
+    quoted = [line for page in pages for line in re.findall(QUOTED, page.read_text(), re.MULTILINE)]
+    assert quoted and [line for line in quoted if not any(re.fullmatch(text, "".join(line)) for text in patterns)] == []
 
 
 def test_errors_are_in_the_tables() -> None:
