@@ -74,9 +74,8 @@ def logs_of(folder: Path) -> set[str]:
 @pytest.mark.parametrize("processors", PROCESSORS)
 @pytest.mark.parametrize("way", [*go_damaged.WAYS, *(go_damaged.ON_A_DEVICE if os.geteuid() == 0 else ())])
 def test_a_damaged_log_changes_nothing(server: Path, way: str, processors: int) -> None:
-    damage = (go_damaged.WAYS | go_damaged.ON_A_DEVICE)[way]
     for seed in range(2):
-        requests, why = go_damaged.damaged(server, processors, damage, str(seed), way in go_damaged.ON_A_DEVICE)
+        requests, why = go_damaged.damaged(server, processors, way, str(seed))
         assert (why, requests > 0) == ("", True)
 
 
@@ -127,7 +126,9 @@ def test_the_newest_logs_of_a_path_are_kept(server: Path, folder: Path) -> None:
     for _ in range(2):
         with running([server], folder) as process:
             pass
-    assert sum(name.removeprefix("log.").isdecimal() for name in logs_of(folder) - {"log.77", "log.78"}) == 4  # by default
+    assert (
+        sum(name.removeprefix("log.").isdecimal() for name in logs_of(folder) - {"log.77", "log.78"}) == 4
+    )  # by default
     assert (folder / "log.77").read_text() == "the user's"
 
 
@@ -177,7 +178,11 @@ def test_a_log_leaves_half_of_the_room(server: Path) -> None:
             time.sleep(0.5)
             log = folder / f"log.{process}"
             found = header_of(log)
-            assert log.stat().st_size <= go_damaged.DEVICE_BYTES / 2 and found.asked == 2**20 and found.points % 2**14 == 0
+            assert (
+                log.stat().st_size <= go_damaged.DEVICE_BYTES / 2
+                and found.asked == 2**20
+                and found.points % 2**14 == 0
+            )
             assert not found.ended
         assert found.notes(found.end) == [
             f"the log has {found.points} points instead of 1048576, because its file system had no room for more"

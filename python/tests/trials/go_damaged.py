@@ -1,5 +1,6 @@
 """Damages the log of a loaded server at a random moment, in each of several ways, on one processor and on four. The
-server must go on: no request fails, it ends with status 0 and prints nothing else, and its memory stays.
+server must go on: no request fails, it ends with status 0 and prints nothing else, and its memory stays. netrev-go must
+say what happened.
 
     python3 python tests.trials.go_damaged [--each N] [--beside N] [--seed S] [RELEASE ..]
 
@@ -21,8 +22,10 @@ from concurrent.futures import ThreadPoolExecutor
 from contextlib import ExitStack, contextmanager
 from pathlib import Path
 
+from netrev_go.go_command.process_logs import log_of_process
 from netrev_go.go_command.running import places
-from netrev_go.log.logfile import HEADER_BYTES
+from netrev_go.go_command.toolchain import RecorderError
+from netrev_go.log.logfile import HEADER_BYTES, PAGE
 
 from .go_snapshots import PROCESSORS, build
 from .go_untouched import go_of
@@ -33,7 +36,8 @@ EARLIEST, LATEST = 0.05, 0.4  # seconds from the log's begin to the damage
 AFTER = 0.2  # seconds that the server goes on
 PATIENCE = 120.0  # seconds
 MOST_GROWTH = 16_384  # kB: the recorder's tables, and what a server needs anyway
-DEVICE_BYTES = 24 * 2**20
+DEVICE_BYTES = 96 * 2**20
+LARGE = 2**20  # points, for which a device has no room
 KEEP_SIZE, PUNCH_HOLE = 1, 2  # of fallocate
 
 Damage = Callable[[Path, random.Random], None]
@@ -76,7 +80,7 @@ def fail(log: Path, chance: random.Random) -> None:
 
 WAYS: dict[str, Damage] = {
     "truncated to 0": lambda log, _: os.truncate(log, 0),
-    "truncated": lambda log, chance: os.truncate(log, chance.randrange(log.stat().st_size)),
+    "truncated": lambda log, chance: os.truncate(log, chance.randrange(log.stat().st_size - 4 * PAGE)),
     "overwritten": lambda log, chance: overwrite(log, chance, chance.randrange(log.stat().st_size)),
     "header and tables overwritten": lambda log, chance: overwrite(log, chance, chance.randrange(HEADER_BYTES)),
     "removed": lambda log, _: log.unlink(),
@@ -84,6 +88,16 @@ WAYS: dict[str, Damage] = {
     "hole": lambda log, chance: punch(log, chance.randrange(log.stat().st_size), chance.randrange(1, 2**23)),
 }
 ON_A_DEVICE: dict[str, Damage] = {"full device": fill, "failing device": fail}
+# What netrev-go says of the log afterwards, if its words don't depend on the bytes that were overwritten.
+ENDED, REMOVED = "was truncated, or its device failed; recording ended then", "was removed"
+SAYS = {
+    "truncated to 0": ENDED,
+    "truncated": ENDED,
+    "failing device": ENDED,
+    "removed": REMOVED,
+    "chmod 000": "",
+    "hole": "",
+}
 
 
 @contextmanager
@@ -104,15 +118,27 @@ def resident(process: int) -> int:
     return int(found[1]) if found else 0
 
 
-def damaged(program: Path, processors: int, way: Damage, seed: str, is_on_device: bool) -> tuple[int, str]:
+def said(process: int) -> str:
+    """What netrev-go says of a process's log."""
+    try:
+        return log_of_process(process).fault
+    except RecorderError as fault:
+        return str(fault)
+
+
+def damaged(program: Path, processors: int, name: str, seed: str) -> tuple[int, str]:
     """One run: the number of requests, and what went wrong."""
-    chance = random.Random(seed)
+    chance, way = random.Random(seed), (WAYS | ON_A_DEVICE)[name]
     with ExitStack() as stack:
-        if is_on_device:
+        if name in ON_A_DEVICE:
             folder = stack.enter_context(device())
         else:
             folder = Path(stack.enter_context(tempfile.TemporaryDirectory(prefix="netrev-damaged-", dir=places()[0])))
-        settings = {"NETREV_LOG": str(folder / "log"), "NETREV_POINTS": str(POINTS), "GOMAXPROCS": str(processors)}
+        settings = {
+            "NETREV_LOG": str(folder / "log"),
+            "NETREV_POINTS": str(LARGE if name in ON_A_DEVICE else POINTS),
+            "GOMAXPROCS": str(processors),
+        }
         process = subprocess.Popen(
             [program, str(CONNECTIONS)], env=os.environ | settings, text=True,
             stdin=subprocess.PIPE, stdout=subprocess.PIPE, stderr=subprocess.PIPE,
@@ -124,7 +150,7 @@ def damaged(program: Path, processors: int, way: Damage, seed: str, is_on_device
         before = resident(process.pid)
         way(log, chance)
         time.sleep(AFTER)
-        after = resident(process.pid) if process.poll() is None else 0
+        after, words = (resident(process.pid), said(process.pid)) if process.poll() is None else (0, "")
         try:
             output, errors = process.communicate(timeout=PATIENCE)
         except subprocess.TimeoutExpired:
@@ -133,8 +159,11 @@ def damaged(program: Path, processors: int, way: Damage, seed: str, is_on_device
             return 0, "it hung: " + errors[:300]
     if process.returncode or errors or not output.strip().isdigit():
         return 0, f"status {process.returncode}: {errors.strip()[:120]}"
-    grown = after - before
-    return int(output), f"its memory grew by {grown} kB" if grown > MOST_GROWTH else ""
+    if after - before > MOST_GROWTH:
+        return int(output), f"its memory grew by {after - before} kB"
+    wanted = SAYS.get(name, words)
+    is_wanted = wanted in words and bool(wanted) == bool(words)
+    return int(output), "" if is_wanted else f"netrev-go says {words!r}"
 
 
 def main(words: list[str]) -> int:
@@ -149,12 +178,10 @@ def main(words: list[str]) -> int:
         with tempfile.TemporaryDirectory() as folder, ThreadPoolExecutor(options.beside) as runs:
             program = Path(folder, "server")
             build(go_of(release), Path(__file__).with_suffix(".go"), program)
-            for name, way in ways.items():
+            for name in ways:
                 for processors in PROCESSORS:
                     seeds = [f"{options.seed} {release} {name} {processors} {run}" for run in range(options.each)]
-                    done = list(
-                        runs.map(lambda seed: damaged(program, processors, way, seed, name in ON_A_DEVICE), seeds)
-                    )
+                    done = list(runs.map(lambda seed: damaged(program, processors, name, seed), seeds))
                     wrong = [why for _, why in done if why]
                     print(
                         f"{release} GOMAXPROCS={processors} {name}: {len(done) - len(wrong)} of {len(done)} went on, "
