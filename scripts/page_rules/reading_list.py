@@ -85,6 +85,17 @@ HUNTS = (
         ),
         2000,
     ),
+    Law(
+        "no goroutine sleeps past a close or a deadline",
+        (
+            "nr_protocol/Deadlines:WillPass",
+            "nr_protocol/Sleep:IsOfLinux",
+            "nr_rev/Descriptor:check",
+            "nr_rev/Run:world_at",
+            "nr_rev/WellFormed:parked_of",
+        ),
+        900,
+    ),
 )
 
 
