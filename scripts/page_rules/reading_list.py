@@ -85,6 +85,17 @@ HUNTS = (
         ),
         2000,
     ),
+    Law(
+        "no goroutine sleeps past a close or a deadline",
+        (
+            "nr_protocol/Deadlines:WillPass",
+            "nr_protocol/Sleep:IsOfLinux",
+            "nr_rev/Descriptor:check",
+            "nr_rev/Run:world_at",
+            "nr_rev/WellFormed:parked_of",
+        ),
+        900,
+    ),
 )
 
 
@@ -230,7 +241,8 @@ def reading_list(tree: Tree) -> Iterator[Finding]:
                 f"{law.says} rests on {lines:,} lines of definitions, but at most {law.most_lines:,} are allowed",
             )
     yield from _differences(tree.text(PAGE), [row for row in tables(tree) if row])
-    counts = [found.count(places) for places in (*found.of_laws, found.all, *hunts.of_laws, hunts.all)]
+    of_all = found.all | hunts.all
+    counts = [found.count(places) for places in (*found.of_laws, found.all, *hunts.of_laws, hunts.all, of_all)]
     yield from _in_words(tree, {(f"{count.definitions:,}", f"{count.lines:,}") for count in counts})
 
 

@@ -86,7 +86,7 @@ then_if_keeps : (w : World) (d : ℕ) (old : DescriptorRow) (timers : Sides (Opt
 then_if_keeps w d old timers change true side ioready at is_open h = then_unblocked w d old timers change side ioready at is_open h
 then_if_keeps w d old timers change false side ioready at is_open h = h
 
-orders_if : (test ioready : Bool) (side : Side) (change : Change) → (then_if change test (unblocked ioready side)).orders ≡ change.orders
+pub orders_if : (test ioready : Bool) (side : Side) (change : Change) → (then_if change test (unblocked ioready side)).orders ≡ change.orders
 orders_if true ioready side change = append-nil _
 orders_if false ioready side change = refl
 

@@ -11,7 +11,7 @@ use Rattle.nr_rev.specs.Run.{Recording, world_after, world_at, next_of}
 use Rattle.nr_laws.proofs.StepKeepsLemmas.{step_keeps}
 use Rattle.nr_laws.proofs.EmptyWorldLemmas.{empty_world_fits}
 
-next_fits : (w : World) (step : Step) → IsTimely step → WellFormed w → WellFormed (next_of w (outcome w step))
+pub next_fits : (w : World) (step : Step) → IsTimely step → WellFormed w → WellFormed (next_of w (outcome w step))
 next_fits w step timely h = go (outcome w step) refl
   where
     go : (o : Outcome) → outcome w step ≡ o → WellFormed (next_of w o)

@@ -42,7 +42,7 @@ function_alike : (side : Side) (a b : Descriptor) → a.deadlines ≡ b.deadline
 function_alike side a b e = function_like side b a (combo_alike a b e)
 
 -- the timer that a side has after an update doesn't depend on the other side
-followed_alike : (side : Side) (old a b : Descriptor) (orders : List TimerOrder) → b.deadlines ≡ a.deadlines → of_side side b.running ≡ of_side side a.running
+pub followed_alike : (side : Side) (old a b : Descriptor) (orders : List TimerOrder) → b.deadlines ≡ a.deadlines → of_side side b.running ≡ of_side side a.running
     → of_side side b.sequences ≡ of_side side a.sequences → UpdatedBy side old a orders → UpdatedBy side old b orders
 followed_alike side old a b orders d r q (TimerUpdate.Kept sequence running same, none) =
     (TimerUpdate.Kept (q ∙ sequence) (r ∙ running) (λ on. (ap (of_side side) d ∙ (same on).0, combo_alike b a d ∙ (same on).1)), none)
@@ -95,7 +95,7 @@ Ends-update side old new before n (TimerUpdate.Stopped raised halted) =
       range = λ b. b;
     })
 
-Ends-updated_by : (side : Side) (old new : Descriptor) (before : Sides (Option Timer)) (n : ℕ) (orders : List TimerOrder) → UpdatedBy side old new orders → OrdersEnd side old new before n orders
+pub Ends-updated_by : (side : Side) (old new : Descriptor) (before : Sides (Option Timer)) (n : ℕ) (orders : List TimerOrder) → UpdatedBy side old new orders → OrdersEnd side old new before n orders
 Ends-updated_by side old new before n orders (update, is) = subst (OrdersEnd side old new before n) (sym is) (Ends-update side old new before n update)
 
 -- If a side has timer t after an update, then either the side had t before, or the update gives it
@@ -113,7 +113,7 @@ Ends-after (Ok a) first next = next a first
 Ends-after (Err reason) first next = Ends-refused (first.given reason refl)
 
 -- carrying out two lists of orders in turn
-Ends-append : {P Q : Sides (Option Timer) × ℕ → Type 0} (xs ys : List TimerOrder) (before : Sides (Option Timer) × ℕ) → Ends P (after_orders xs before)
+pub Ends-append : {P Q : Sides (Option Timer) × ℕ → Type 0} (xs ys : List TimerOrder) (before : Sides (Option Timer) × ℕ) → Ends P (after_orders xs before)
     → ((mid : Sides (Option Timer) × ℕ) → P mid → Ends Q (after_orders ys mid)) → Ends Q (after_orders (xs ++ ys) before)
 Ends-append [] ys before first next = next before (first.value before refl)
 Ends-append (x ∷ xs) ys before first next = Ends-after (after_order x before) first λ a first. Ends-append xs ys a first next

@@ -61,7 +61,7 @@ entries_in (row ∷ rows) d e p =
     later : (k : ℕ) → e.descriptor ≡ d + 1 + k → e.descriptor ≡ d + suc k
     later k q = omega arith
 
-least_is_there : (w : World) (e : Entry) → least_entry w ≡ Some e → (row : DescriptorRow) × (slice_get w.descriptors e.descriptor ≡ Some row) × (of_side e.side row.timers ≡ Some e.timer)
+pub least_is_there : (w : World) (e : Entry) → least_entry w ≡ Some e → (row : DescriptorRow) × (slice_get w.descriptors e.descriptor ≡ Some row) × (of_side e.side row.timers ≡ Some e.timer)
 least_is_there w e is =
     let r = entries_in w.descriptors 0 e (least_in _ e is) in
     let n : e.descriptor ≡ r.0 = zero_more r.0 r.1 in
@@ -252,7 +252,7 @@ module _ (w : World) (i : ℕ) (e : Entry) (row : DescriptorRow) (h : WellFormed
   is_due : IsDueFor row.descriptor e
   is_due = fits_it.current now_here
 
-  may_fire : MayFire row e.timer.function
+  pub may_fire : MayFire row e.timer.function
   may_fire =
       record {
         fits = h.timers.entries_fit e.descriptor row row_at;
@@ -292,7 +292,7 @@ module _ (w : World) (i : ℕ) (e : Entry) (row : DescriptorRow) (h : WellFormed
       (h.timers.one_current (FiringAt (skip i j)) (FiringAt i) f e (sym (slice_get-remove w.firings i j e at) ∙ is) at same (same_side ∙ sym fits_it.side)
       (current_of f same (f_now ∙ ap (λ s. of_side s row.descriptor.sequences) (sym same_side))) (current_of e refl now_here)))
 
-current_is : (f : TimerFunction) (n : ℕ) (d : Descriptor) → not (is_current f n d) ≡ false → n ≡ of_side (side_of_function f) d.sequences
+pub current_is : (f : TimerFunction) (n : ℕ) (d : Descriptor) → not (is_current f n d) ≡ false → n ≡ of_side (side_of_function f) d.sequences
 current_is f n d e = same_number n (of_side (side_of_function f) d.sequences) (not_false (n == of_side (side_of_function f) d.sequences) e)
 
 pub tick_sound : (w : World) (t : ℤ) → WellFormed w → KeepsFor (IsTime t) (tick t w)
@@ -327,7 +327,7 @@ pop_sound w h =
     let same : s.0 ≡ row = same_Some _ _ (sym s.1 ∙ at) in
     Ends-ok (popped w entry row h at (ap (λ (r : DescriptorRow). of_side entry.side r.timers) (sym same) ∙ s.2) (below_of _ _ room) (no_later entry.timer.due w.clock due))
 
-timed : (row : DescriptorRow) (f : TimerFunction) → MayFire row f → is_timed f row.descriptor ≡ true
+pub timed : (row : DescriptorRow) (f : TimerFunction) → MayFire row f → is_timed f row.descriptor ≡ true
 timed row TimerFunction.Read may = ap₂ (λ x y. x && y) (may.positive Read refl) may.running
 timed row TimerFunction.Write may = ap₂ (λ x y. x && y) (may.positive Write refl) may.running
 timed row TimerFunction.Both may = ap₂ (λ x y. x && y) (ap₂ (λ x y. x && y) (may.positive Read refl) may.running) (may.positive Write refl)

@@ -79,7 +79,7 @@ combo_positive d e s = go s
     go Write = ap is_positive (sym equal) ∙ parts.0
 
 -- under combo, both deadlines are equal
-combo_same : (d : Descriptor) → is_combo d ≡ true → (a b : Side) → of_side a d.deadlines ≡ of_side b d.deadlines
+pub combo_same : (d : Descriptor) → is_combo d ≡ true → (a b : Side) → of_side a d.deadlines ≡ of_side b d.deadlines
 combo_same d e = go
   where
     equal : d.deadlines.read ≡ d.deadlines.write

@@ -1,0 +1,9 @@
+pub mod AsideStepLemmas
+pub mod DeadlinePassLemmas
+pub mod DeadlineTimerLemmas
+pub mod DeadlineTimerStepLemmas
+pub mod FiringWakeLemmas
+pub mod SleepLemmas
+pub mod SleepPositionLemmas
+pub mod SleepStepLemmas
+pub mod TimerPopLemmas

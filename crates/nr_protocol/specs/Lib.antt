@@ -1,0 +1,3 @@
+-- what the laws say
+pub mod Deadlines
+pub mod Sleep
