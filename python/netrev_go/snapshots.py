@@ -24,7 +24,7 @@ from .log.notes import PARKED
 from .log.points import Log
 from .log.source_lines import Calls, SourceRoots, lines_of
 from .recordings import ReportPrinter, complain, say
-from .steps.conversion import RecordingOptions, convert, program_of
+from .steps.conversion import RecordingOptions, convert, more_endings, program_of
 from .steps.report import line_of
 from .steps.where import own_line
 
@@ -127,9 +127,11 @@ def snapshot(
 ) -> int:
     """Makes a recording of a running process at once."""
     base = base_name(options.o, "snapshot")
-    look(base)
+    is_typed = options.o is not None
+    look(base, is_typed)
     saying = ReportPrinter([])
-    outcome = convert(log_of_process(options.pid), numbered(base, 1), go, recording_options, known, saying.hear, True)
+    name = numbered(base, 1, is_typed, more_endings(recording_options))
+    outcome = convert(log_of_process(options.pid), name, go, recording_options, known, saying.hear, True)
     saying.rest(outcome.lines)
     return ExitStatus.DONE if outcome.taken else ExitStatus.REFUSED
 
@@ -137,7 +139,7 @@ def snapshot(
 def watch(options: argparse.Namespace, go: Go | None, recording_options: RecordingOptions, known: list[object]) -> int:
     """Makes a recording of a process when one of its calls has waited as long as --stuck says."""
     log = log_of_process(options.pid)
-    look(base_name(options.o, "snapshot"))
+    look(base_name(options.o, "snapshot"), options.o is not None)
     pause = min(max(options.stuck / LOOKS, OFTENEST), SELDOMEST)
     try:
         with log.open("rb", buffering=0) as file:

@@ -9,11 +9,14 @@ from typing import NamedTuple
 from netrev.findings.suspects.ranking import suspects_of
 from netrev.messages import searches as messages
 from netrev.recording.recording import Recording
-from netrev.reduce.reduced import Reducing, Wanted, answered_recording, reduced_of
-from netrev.reduce.writing import answered_by, text_of, write_recording
+from netrev.reduce.reduced import Reduced, Reducing, Wanted, answered_recording, reduced_of
+from netrev.reduce.writing import answered_by, text_of, where_text, write_recording
+from netrev.recording.where import SourceLines
 from netrev.run.index import run_of
+from netrev.session.files import derived
 from netrev.session.session import Session, UsageError
 from netrev.system.interrupts import SearchInterruptedError
+from netrev.text.files import has
 from netrev.text.vocabulary import number_of
 
 from .failures import explaining_steps, watched
@@ -111,29 +114,38 @@ class FindingFiles:
 
     def write(self, at: int, finding: ScheduleFinding, times: int) -> list[str]:
         """Writes a finding's recording and the reduced recording; returns the lines about them."""
-        recording, run = self.sentences.recording, finding.run
-        file = f"{Path(self.session.path).stem}-other-{at}.jsonl"
+        recording, run, of = self.sentences.recording, finding.run, self.session.path
         data = text_of(run.world, run.world.limits.buf, run.pairs(), recording.has_answers)
         status, output = answered_by(self.session.program, "check", data)
         if status:
             fault = output.decode("utf-8", "replace").strip()
             return [messages.SCHEDULE_REFUSED.format(finding=at, fault=fault)]
-        write_recording(file, self.session.path, data, recording.lines, [step.number for step in run.steps])
-        accepted = output.decode("utf-8", "replace").strip()
-        *lines, unless = self.sentences.finding(at, finding, times, file)
-        lines.append(f"   netrev: {accepted}")
-        lines.append(f"   short:  {self._shortened(file, finding)}")
+        lines_beside = where_text(recording.lines, [step.number for step in run.steps])
+        endings = {".jsonl": has(data), ".where": has(lines_beside.encode())}
+        short: Reduced | None = None
+        why = ""
+        try:
+            short = self._shortened(data, lines_beside, finding)
+            endings |= {f"-short{ending}": owns for ending, owns in short.endings().items()}
+        except UsageError as wrong:
+            why = str(wrong)
+        finally:
+            base = derived(Path(f"{Path(of).stem}-other-{at}"), of, endings)
+            write_recording(f"{base}.jsonl", of, data, lines_beside)
+        if short:
+            write_recording(f"{base}-short.jsonl", of, short.data, short.lines)
+            why = short.words(f"{base}-short.jsonl", len(run.steps))
+        *lines, unless = self.sentences.finding(at, finding, times, f"{base}.jsonl")
+        lines.append(f"   netrev: {output.decode('utf-8', 'replace').strip()}")
+        lines.append(f"   short:  {why}")
         return [*lines, unless]
 
-    def _shortened(self, file: str, finding: ScheduleFinding) -> str:
-        """Reduces a finding's recording; returns the line about the reduced recording."""
-        whole = Recording.read(file)
-        short = f"{Path(file).stem}-short.jsonl"
-        reducing = Reducing(whole, self.session.path, self.session.program, self.session.interrupts.check)
-        try:
-            return reduced_of(reducing, short, self._wanted(whole, finding)).words(whole.length)
-        except UsageError as wrong:
-            return str(wrong)
+    def _shortened(self, data: bytes, lines: str, finding: ScheduleFinding) -> Reduced:
+        """A finding's recording, reduced; raises UsageError if a replay doesn't show the finding."""
+        whole = Recording(data)
+        whole.lines = SourceLines(lines, whole.length)
+        reducing = Reducing(whole, self.session.program, self.session.interrupts.check)
+        return reduced_of(reducing, self._wanted(whole, finding))
 
     def _wanted(self, whole: Recording, finding: ScheduleFinding) -> Wanted:
         """The target of the reduced recording. The target is the finding's suspect, or the goroutine that hangs after

@@ -164,4 +164,4 @@ def test_a_report_begins_with_its_own_suspect(monkeypatch: pytest.MonkeyPatch, n
     ],
 )  # fmt: skip
 def test_what_a_reduction_removed(left_out: dict[UnitKind, int], is_done: bool, says: str) -> None:
-    assert Reduced("x.jsonl", [1, 2, 5], Counter(left_out), is_done).words(9) == says
+    assert Reduced(b"", "", [1, 2, 5], Counter(left_out), is_done).words("x.jsonl", 9) == says

@@ -113,9 +113,14 @@ def test_other_words_and_the_recording_itself_are_refused() -> None:
     assert output.count("| explore [failures] [N]: N is the number of schedules, from 1 to 1000000") == 4
     shutil.copy(GOOD, "x-other-1.jsonl")
     os.symlink("x-other-1.jsonl", "x.jsonl")
-    output = nrdb("--explore", "x.jsonl", status=3)
-    assert "x-other-1.jsonl is the recording itself, or its NAME.where: choose another name" in output
-    assert Path("x.jsonl").read_bytes() == GOOD.read_bytes()
+    Path("x-other-2-short.jsonl").symlink_to("diary")
+    Path("diary").write_text("mine")
+    for _ in range(2):  # (the second time replaces what the first wrote)
+        output = nrdb("--explore", "x.jsonl", status=SOME)
+        assert re.findall(r"^\| \d\. .*?, in (\S+): ", output, re.MULTILINE) == [f"x-other-{n}-2.jsonl" for n in (1, 2)]
+    assert (Path("x.jsonl").read_bytes(), Path("diary").read_text()) == (GOOD.read_bytes(), "mine")
+    new = {f"x-other-{n}-2{ending}.jsonl" for n in (1, 2) for ending in ("", "-short")}
+    assert set(os.listdir()) == {"x.jsonl", "x-other-1.jsonl", "x-other-2-short.jsonl", "diary"} | new
 
 
 def upgraded_with_lines(path: Path) -> tuple[Path, str]:
