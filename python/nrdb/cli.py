@@ -10,7 +10,7 @@ import shlex
 import shutil
 import sys
 from collections.abc import Callable, Sequence
-from contextlib import closing, nullcontext
+from contextlib import ExitStack, closing, nullcontext
 from functools import partial
 
 from netrev.connection.arriving_changes import ArrivingChanges
@@ -97,32 +97,36 @@ def start(wanted: argparse.Namespace, printer: Printer) -> int:
     with closing(opened(wanted, interrupts, printer)) as netrev:
         try:
             return begun(wanted, netrev, interrupts, printer)
-        except (Exception, KeyboardInterrupt):
+        except BaseException:
             netrev.drop()
             raise
 
 
 def begun(wanted: argparse.Namespace, netrev: Netrev, interrupts: Interrupts, printer: Printer) -> int:
     """Runs a session with this netrev to its end, and returns the exit status."""
-    with interrupts.held(lambda: printer.note(messages.STILL_READING)) if has_prompt(wanted) else nullcontext():
-        session = session_of(wanted, netrev, interrupts, printer)
-        first = session.ask("info position")
-    try:
+    with ExitStack() as at_the_end:
+        with interrupts.held(lambda: printer.note(messages.STILL_READING)) if has_prompt(wanted) else nullcontext():
+            session = session_of(wanted, netrev, interrupts, printer)
+            at_the_end.callback(drop_others, session)
+            first = session.ask("info position")
         if not POSITION.fullmatch(first):
             return refused(wanted, netrev, first, printer)
         session.begin(first)
         if session.recording and session.recording.lines.fault:
             printer.note(session.recording.lines.why_unused(wanted.file))
         status = played(session, wanted)
-    finally:
-        if session.scout and session.recorded:
-            session.scout.drop()
-            session.recorded.drop()
-        if session.recording and session.recording.suspects:
-            session.recording.suspects.drop()
     ended = netrev.close()
     status = status or (FAILED if session.errors else DONE)
     return status if wanted.web is not None else ended or status  # (the page may have started another netrev)
+
+
+def drop_others(session: Session) -> None:
+    """Ends each netrev of a session, other than the one that answers its lines."""
+    if session.scout and session.recorded:
+        session.scout.drop()
+        session.recorded.drop()
+    if session.recording and session.recording.suspects:
+        session.recording.suspects.drop()
 
 
 def has_prompt(wanted: argparse.Namespace) -> bool:

@@ -1,8 +1,13 @@
-"""How programs with millions of small objects exit."""
+"""How programs begin, and how they end: at once, or by a signal."""
 
+import ast
+import signal
 import subprocess
 import sys
+import time
 from pathlib import Path
+
+import pytest
 
 PACKAGES = Path(__file__).parents[2]
 PROGRAM = """
@@ -38,3 +43,62 @@ def test_all_is_said_and_nothing_given_back() -> None:
 
 def test_who_ends_otherwise_ends_as_ever() -> None:
     assert run("raise SystemExit(5)") == (5, "said\ndone at the end\ngiven back\n")
+
+
+NRDB = PACKAGES.parent / "nrdb"
+RECORDING = PACKAGES.parent / "examples/first.jsonl"
+SLOW = "#!/bin/sh\necho $$ >> pids\nexec sleep 600\n"
+PATIENCE = 60  # seconds
+
+
+@pytest.mark.parametrize("number", [signal.SIGTERM, signal.SIGHUP, signal.SIGQUIT])
+@pytest.mark.parametrize(
+    "words", [[NRDB, "--batch", "-ex", "where"], [NRDB, "--suspects"], [NRDB, "--reduce", "x.jsonl"]]
+)
+def test_a_signal_ends_the_netrevs_that_were_started(number: int, words: list[str], tmp_path: Path) -> None:
+    netrev = tmp_path / "netrev"
+    netrev.write_text(SLOW)
+    netrev.chmod(0o755)
+    process = subprocess.Popen([*words, "--netrev", netrev, RECORDING], cwd=tmp_path, start_new_session=True)
+    pids = tmp_path / "pids"
+    until = time.monotonic() + PATIENCE
+    while time.monotonic() < until and not (pids.exists() and pids.read_text().endswith("\n")):
+        time.sleep(0.01)
+    time.sleep(0.2)
+    process.send_signal(number)
+    assert process.wait(PATIENCE) == -number
+    assert [pid for pid in pids.read_text().split() if Path("/proc", pid).exists()] == []
+
+
+def test_an_exception_of_a_signal_that_was_swallowed_comes_again() -> None:
+    does = """
+    import os, signal, time
+    for number in (signal.SIGINT, signal.SIGTERM):
+        try:
+            os.kill(os.getpid(), number)
+            time.sleep(60)
+        except BaseException as error:
+            print(type(error).__name__)
+    time.sleep(60)"""
+    assert run(does) == (-signal.SIGTERM, "said\nKeyboardInterrupt\nSystemExit\n")
+
+
+def test_ctrl_c_before_a_program_begins_only_ends_it(tmp_path: Path) -> None:
+    (tmp_path / "__main__.py").write_bytes((PACKAGES / "__main__.py").read_bytes())
+    for name in ("nrdb", "other"):
+        (tmp_path / name).mkdir()
+        (tmp_path / name / "__main__.py").write_text("import signal\nsignal.raise_signal(signal.SIGINT)\n")
+        ended = subprocess.run([sys.executable, tmp_path, name], capture_output=True, text=True)
+        assert (ended.returncode, "Traceback" in ended.stderr) == (-signal.SIGINT, name == "other")
+    assert run("raise KeyboardInterrupt")[0] == -signal.SIGINT
+
+
+def test_an_older_python_is_refused_in_a_line() -> None:
+    main = PACKAGES / "__main__.py"
+    assert not any(
+        isinstance(node, (ast.JoinedStr, ast.AnnAssign, ast.NamedExpr))
+        for node in ast.walk(ast.parse(main.read_text()))
+    )
+    script = f"import sys; sys.version_info = (3, 9); exec(open({str(main)!r}).read())"
+    ended = subprocess.run([sys.executable, "-c", script, "nrdb", "--version"], capture_output=True, text=True)
+    assert (ended.returncode, ended.stdout, ended.stderr) == (3, "", "Python 3.10 or later is needed\n")
