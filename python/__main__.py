@@ -10,7 +10,7 @@ if sys.version_info < (3, 10):  # (any Python can read this file, Python 2.7 too
     sys.stderr.write("Python 3.10 or later is needed\n")
     sys.exit(3)
 
-import _signal as signal  # (`signal` itself takes milliseconds to import)
+import _signal as signal  # type: ignore  # (`signal` itself takes milliseconds to import)
 
 if sys.argv[1:2] in (["nrdb"], ["netrev_go"]) and signal.getsignal(signal.SIGINT) is signal.default_int_handler:
     signal.signal(signal.SIGINT, signal.SIG_DFL)  # until the program begins, Ctrl-C only ends it
