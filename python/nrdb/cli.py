@@ -1,5 +1,5 @@
 """The command line of nrdb. Its exit statuses are netrev's: 0 done, 1 the recording was refused, 2 usage error, 3 the
-file, the program or the connection failed. nrdb adds 4 for findings of --suspects, --explore or --explore-failures.
+file, the program or the connection failed. nrdb adds 4 for findings of --suspects or --explore.
 Modules that few sessions need are imported on first use, so that the prompt appears sooner."""
 
 import argparse
@@ -131,7 +131,7 @@ def drop_others(session: Session) -> None:
 
 def has_prompt(wanted: argparse.Namespace) -> bool:
     """Whether a user types at a terminal, where Ctrl-C may be meant for something other than the session."""
-    ends = wanted.batch or wanted.suspects or wanted.explore or wanted.explore_failures or wanted.web is not None
+    ends = wanted.batch or wanted.suspects or wanted.explore or wanted.web is not None
     return sys.stdin.isatty() and not ends and all(getattr(wanted, name) is None for name in WRITERS)
 
 
@@ -187,8 +187,8 @@ def played(session: Session, wanted: argparse.Namespace) -> int:
             return DONE
     if wanted.suspects:
         return unless_stopped(session, lambda: suspected(session))
-    if wanted.explore or wanted.explore_failures:
-        return unless_stopped(session, lambda: schedules_tried(session, wanted.explore_failures))
+    if wanted.explore:
+        return unless_stopped(session, lambda: schedules_tried(session))
     for name, write in WRITERS.items():
         if (file := getattr(wanted, name)) is not None:
             return unless_stopped(session, partial(write_file, session, file, write, wanted.part))
@@ -220,11 +220,11 @@ def suspected(session: Session) -> int:
     return SUSPECTS if table.rows else DONE
 
 
-def schedules_tried(session: Session, is_of_failures: bool) -> int:
+def schedules_tried(session: Session) -> int:
     """Explores, and returns the exit status."""
     from netrev.explore import explored
 
-    result = explored(session, is_of_failures=is_of_failures)
+    result = explored(session)
     session.printer.note(result.text)
     return SUSPECTS if result.found else DONE
 

@@ -75,11 +75,6 @@ def parser() -> Words:
         help="run schedules near the recorded one after -x and -ex, print those that end with a suspect, and exit; the status is 4 if "
         "there are any",
     )
-    options.add_argument(
-        "--explore-failures",
-        action="store_true",
-        help="like --explore, for schedules in which a call that succeeded fails",
-    )
     options.add_argument("--join", metavar="HOST:PORT", help="join a session that `netrev serve` shares")
     options.add_argument(
         "--dap", action="store_true", help="serve an editor over standard input and output (Debug Adapter Protocol)"

@@ -19,7 +19,6 @@ from netrev.system.interrupts import SearchInterruptedError
 from netrev.text.files import has
 from netrev.text.vocabulary import number_of
 
-from .failures import explaining_steps, watched
 from .hangs import moved_by
 from .numbered_state import ImpossibleScheduleError
 from .script import script_of
@@ -27,19 +26,16 @@ from .search import ScheduleFinding, Search
 from .sentences import FindingSentences, summary
 from .workers import Share, processors, run_all
 
-FAILURES = "failures"
 MOST, GREATEST = 3_000, 1_000_000
 MOST_STEPS = 100_000
 SECONDS = 0.2  # seconds between two lines of progress
 
 
 def answer_explore(session: Session, words: list[str]) -> None:
-    is_of_failures = words[:1] == [FAILURES]
-    rest = words[is_of_failures:]
-    number = number_of(rest[0]) if len(rest) == 1 else MOST if not rest else None
+    number = number_of(words[0]) if len(words) == 1 else MOST if not words else None
     if number is None or not 0 < number <= GREATEST:
         raise UsageError(messages.EXPLORE.format(most=GREATEST))
-    session.printer.note(explored(session, number, is_of_failures).text)
+    session.printer.note(explored(session, number).text)
 
 
 class Explored(NamedTuple):
@@ -49,9 +45,8 @@ class Explored(NamedTuple):
     found: int
 
 
-def explored(session: Session, most: int = MOST, is_of_failures: bool = False) -> Explored:
-    """Runs schedules near the recorded one, and writes those that end with a suspect or a call that hangs. If
-    `is_of_failures`, it writes those in which a call fails although it succeeded in the recording instead."""
+def explored(session: Session, most: int = MOST) -> Explored:
+    """Runs schedules near the recorded one, and writes those that end with a suspect or a call that hangs."""
     recording = session.text()
     if recording.length > MOST_STEPS:
         raise UsageError(messages.TOO_LONG.format(most=MOST_STEPS))
@@ -60,8 +55,6 @@ def explored(session: Session, most: int = MOST, is_of_failures: bool = False) -
     begun = time.monotonic()
     try:
         script = script_of(answered)
-        if is_of_failures:
-            script.watched = watched(script)
         search = Search(script, recording.lines.words)
     except ImpossibleScheduleError as why:
         raise UsageError(messages.NOT_CALLS.format(why=why)) from None
@@ -148,16 +141,13 @@ class FindingFiles:
         return reduced_of(reducing, self._wanted(whole, finding))
 
     def _wanted(self, whole: Recording, finding: ScheduleFinding) -> Wanted:
-        """The target of the reduced recording. The target is the finding's suspect, or the goroutine that hangs after
-        both settings of its deadline, or the call that fails, with its cause."""
+        """The target of the reduced recording: the finding's suspect, or the goroutine that hangs after both settings of
+        its deadline."""
         if finding.suspect:
             shown = [suspect for suspect in suspects_of(whole).suspects if suspect.is_shown]
             subjects = [suspect.subject for suspect in shown]
             number = subjects.index(finding.suspect.subject) + 1 if finding.suspect.subject in subjects else 1
             return Wanted(number, "", "", whole.length)
         run = finding.run
-        if run.failed and finding.reason:
-            stays = explaining_steps(self.sentences.script, run.failed, finding.reason, run.steps)
-            return Wanted(0, "", "", whole.length, steps=stays)
         steps = moved_by(self.sentences.script, finding.hangs, run.places[finding.hangs], run.steps)
         return Wanted(0, "", "", whole.length, finding.hangs, steps)

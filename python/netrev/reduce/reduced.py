@@ -16,14 +16,14 @@ from netrev.text.vocabulary import cell_of, number_of
 from .events import Events
 from .replay import ReplayPlayer
 from .shrinking import NotReproducedError, Shrinking
-from .targets import CellTarget, HangTarget, ReductionTarget, StepsTarget, SuspectTarget
+from .targets import CellTarget, HangTarget, ReductionTarget, SuspectTarget
 from .units import UnitKind, units_of
 from .writing import answered_by, taken, where_text
 
 
 class Wanted(NamedTuple):
-    """The target of a reduction: the suspect with this number, a cell with a value at a step, a goroutine that hangs,
-    or only the steps in `steps`. These steps must also stay if a goroutine hangs."""
+    """The target of a reduction: the suspect with this number, a cell with a value at a step, or a goroutine that
+    hangs; then the steps in `steps` must stay too."""
 
     suspect: int
     cell: str
@@ -100,8 +100,6 @@ def answered_recording(program: str, recording: Recording, until: int) -> Record
 def _target(events: Events, recording: Recording, wanted: Wanted) -> ReductionTarget:
     if wanted.hangs >= 0:
         return HangTarget(events, wanted.hangs, wanted.steps, wanted.until)
-    if wanted.steps:
-        return StepsTarget(events, wanted.steps)
     if wanted.cell:
         return CellTarget(events, wanted.cell, wanted.value, wanted.until)
     found = [suspect for suspect in suspects_of(recording).suspects if suspect.is_shown]

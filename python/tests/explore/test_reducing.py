@@ -12,7 +12,7 @@ from netrev.recording.where import SourceLines
 from netrev.reduce.events import Events
 from netrev.reduce.replay import ReplayPlayer
 from netrev.reduce.shrinking import Shrinking
-from netrev.reduce.targets import CellTarget, HangTarget, StepsTarget
+from netrev.reduce.targets import CellTarget, HangTarget
 from netrev.reduce.units import Unit, units_of
 from netrev.reduce.writing import where_text, write_recording
 from netrev.session.session import UsageError
@@ -236,4 +236,3 @@ def test_targets_know_their_socket() -> None:
     assert HangTarget(events, 1, [6], 9).socket == 0
     assert HangTarget(events, 1, [1, 5], 9).socket == 1
     assert HangTarget(events, 1, [1], 9).socket is None
-    assert StepsTarget(events, [6, 7]).socket == 0
