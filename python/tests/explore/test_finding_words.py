@@ -1,7 +1,6 @@
 """The text about findings in terms of calls, and the target of a finding's reduced recording and of a report."""
 
 from collections import Counter
-from collections.abc import Callable
 from typing import Any
 
 import pytest
@@ -100,7 +99,7 @@ def test_a_hang_is_reduced_with_its_steps(monkeypatch: pytest.MonkeyPatch) -> No
     schedule = stub(places=[0, 1, 2, 3], steps=object())
     finding, sentences = stub(suspect=None, hangs=3, run=schedule), stub(script=object())
     calls: list[tuple[Any, ...]] = []
-    monkeypatch.setattr(commands, "moved_by", lambda *arguments: calls.append(arguments) or (4, 5))
+    monkeypatch.setattr(commands, "moved_by", lambda *arguments: (calls.append(arguments), (4, 5))[1])  # type: ignore[func-returns-value]
     assert FindingFiles(stub(), sentences)._wanted(stub(length=9), finding) == Wanted(0, "", "", 9, 3, (4, 5))
     assert calls == [(sentences.script, 3, 3, schedule.steps)]
 
