@@ -6,6 +6,7 @@ import argparse
 import gc
 import io
 import os
+import re
 import shlex
 import shutil
 import sys
@@ -32,6 +33,7 @@ from .options import parsed, parser
 from .prompt.answers import ANSWERS
 
 DONE, REFUSED, USAGE, FAILED, SUSPECTS = range(5)
+FAULT = re.compile(r"((line|step) \d+: )?fault \d+")  # the beginning of netrev's reply if it rejects a recording
 
 
 def main(words: Sequence[str] | None = None) -> int:
@@ -61,9 +63,9 @@ def run(wanted: argparse.Namespace, printer: Printer) -> int:
     """Runs the requested session, reports how the session ended, and returns the exit status."""
     try:
         status = start(wanted, printer)
-    except NetrevEndedError as ended:
+    except NetrevEndedError:
         printer.note(messages.NETREV_ENDED)
-        status = ended.status if ended.status and ended.status > 0 else FAILED
+        status = FAILED
     except (ScoutUnavailableError, MismatchedRecordingError, NotARecordingError, StrangeReplyError) as wrong:
         printer.note(str(wrong))
         status = FAILED
@@ -115,9 +117,14 @@ def begun(wanted: argparse.Namespace, netrev: Netrev, interrupts: Interrupts, pr
         if session.recording and session.recording.lines.fault:
             printer.note(session.recording.lines.why_unused(wanted.file))
         status = played(session, wanted)
-    ended = netrev.close()
+    ended = known_status(netrev.close())
     status = status or (FAILED if session.errors else DONE)
     return status if wanted.web is not None else ended or status  # (the page may have started another netrev)
+
+
+def known_status(status: int | None) -> int:
+    """netrev's exit status; FAILED if it is none of netrev's."""
+    return (status or DONE) if status in (None, DONE, REFUSED, USAGE, FAILED) else FAILED
 
 
 def drop_others(session: Session) -> None:
@@ -162,12 +169,12 @@ def session_of(wanted: argparse.Namespace, netrev: Netrev, interrupts: Interrupt
 
 def refused(wanted: argparse.Namespace, netrev: Netrev, first: str, printer: Printer) -> int:
     """Reports that netrev's first reply is a fault, explains a fault in a recording, and returns the exit status."""
-    if wanted.join and not first.startswith("fault "):
+    if not (first.startswith("fault ") if wanted.join else FAULT.match(first)):
         raise StrangeReplyError("info position", first)
     printer.reply("", Reply(first), "")
     for line in explained(wanted.netrev, wanted.file, first) if wanted.file else ():
         printer.note(line)
-    return netrev.close() or REFUSED
+    return known_status(netrev.close()) or REFUSED
 
 
 def opened(wanted: argparse.Namespace, interrupts: Interrupts, printer: Printer) -> Netrev:

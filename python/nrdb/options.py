@@ -4,6 +4,7 @@ import argparse
 from collections.abc import Sequence
 from typing import Any, NoReturn
 
+from netrev.system.command_lines import file_word
 from netrev.system.program_path import BUILT, netrev_program
 from netrev.system.provenance import program_lines
 from netrev.system.version import VERSION
@@ -104,4 +105,5 @@ def parsed(words: Sequence[str]) -> argparse.Namespace:
         part = []
     wanted = parser().parse_args([*words[:at], *words[at + len(part) :]])
     wanted.part = part
+    wanted.file = wanted.file and file_word(wanted.file)
     return wanted
