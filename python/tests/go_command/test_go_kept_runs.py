@@ -174,6 +174,7 @@ def test_the_folder_in_which_it_is_called_may_be_removed(run: Run) -> None:
 
 def test_a_disk_that_is_full_leaves_what_stood_there(monkeypatch: pytest.MonkeyPatch, run: Run) -> None:
     (run.folder / "x.jsonl").write_text("an earlier one")
+    (run.folder / "x.where").write_text('{"where":1,"steps":0}')
 
     def full(file: Any, text: str) -> int:
         raise OSError(28, "No space left on device")
@@ -184,6 +185,7 @@ def test_a_disk_that_is_full_leaves_what_stood_there(monkeypatch: pytest.MonkeyP
     assert returned == 0, output
     assert "netrev-go: x.jsonl: No space left on device" in output
     assert (run.folder / "x.jsonl").read_text() == "an earlier one"
+    assert (run.folder / "x.where").read_text() == '{"where":1,"steps":0}'
     assert run.again(output) == WHOLE
     assert [name for name in os.listdir() if name.startswith(".netrev")] == []
 

@@ -1,6 +1,7 @@
 """How programs begin, and how they end: at once, or by a signal."""
 
 import ast
+import os
 import signal
 import subprocess
 import sys
@@ -8,6 +9,8 @@ import time
 from pathlib import Path
 
 import pytest
+
+from dev.fuzz.generators.logs import from_text
 
 PACKAGES = Path(__file__).parents[2]
 PROGRAM = """
@@ -45,29 +48,28 @@ def test_who_ends_otherwise_ends_as_ever() -> None:
     assert run("raise SystemExit(5)") == (5, "said\ndone at the end\ngiven back\n")
 
 
-NRDB = PACKAGES.parent / "nrdb"
-RECORDING = PACKAGES.parent / "examples/first.jsonl"
+CLONE = PACKAGES.parent
 SLOW = "#!/bin/sh\necho $$ >> pids\nexec sleep 600\n"
 PATIENCE = 60  # seconds
 
 
 @pytest.mark.parametrize("number", [signal.SIGTERM, signal.SIGHUP, signal.SIGQUIT])
-@pytest.mark.parametrize(
-    "words", [[NRDB, "--batch", "-ex", "where"], [NRDB, "--suspects"], [NRDB, "--reduce", "x.jsonl"]]
-)
-def test_a_signal_ends_the_netrevs_that_were_started(number: int, words: list[str], tmp_path: Path) -> None:
-    netrev = tmp_path / "netrev"
+@pytest.mark.parametrize("words", ["nrdb --batch -ex where", "nrdb --suspects", "nrdb --reduce x.jsonl", "tools/go/netrev-go -o x convert"])  # fmt: skip
+def test_a_signal_ends_the_netrevs_that_were_started(number: int, words: str, tmp_path: Path) -> None:
+    log, netrev, pids = tmp_path / "log.1", tmp_path / "netrev", tmp_path / "pids"
+    log.write_bytes(from_text((CLONE / "examples/real/past.log").read_text())[0])
     netrev.write_text(SLOW)
     netrev.chmod(0o755)
-    process = subprocess.Popen([*words, "--netrev", netrev, RECORDING], cwd=tmp_path, start_new_session=True)
-    pids = tmp_path / "pids"
+    program, *more = [*words.split(), str(CLONE / "examples/first.jsonl") if words[0] == "n" else str(log)]
+    environment = os.environ | {"NETREV": str(netrev)}
+    process = subprocess.Popen([CLONE / program, *more], cwd=tmp_path, env=environment, start_new_session=True)
     until = time.monotonic() + PATIENCE
     while time.monotonic() < until and not (pids.exists() and pids.read_text().endswith("\n")):
         time.sleep(0.01)
     time.sleep(0.2)
     process.send_signal(number)
     assert process.wait(PATIENCE) == -number
-    assert [pid for pid in pids.read_text().split() if Path("/proc", pid).exists()] == []
+    assert pids.read_text() and [pid for pid in pids.read_text().split() if Path("/proc", pid).exists()] == []
 
 
 def test_an_exception_of_a_signal_that_was_swallowed_comes_again() -> None:
