@@ -123,7 +123,7 @@ OTHERS: dict[str, tuple[argparse.ArgumentParser, str, str, str]] = {
         "nrdb walks a recording in both directions: it prints netrev's replies unchanged, and what it adds to them begins with | and "
         "is unproved. `help` at its prompt lists the commands. Its exit status is netrev's: 0 done, 1 the recording was "
         "refused, 2 usage error, 3 the file, the program or the connection failed; and 4 if --suspects, "
-        "--explore or --explore-failures prints findings.",
+        "--explore prints findings.",
     ),
     "netrev-go": (
         options.parser(),

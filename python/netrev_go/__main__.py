@@ -4,4 +4,10 @@ from netrev.system.immediate_exit import ended_by
 
 from .cli import main
 
-ended_by(main)
+
+def program() -> None:
+    ended_by(main)
+
+
+if __name__ == "__main__":
+    program()

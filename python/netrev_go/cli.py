@@ -25,7 +25,7 @@ from .recordings import RecordingMaker, ReportPrinter, complain, say, unwritten
 from .recovery import offer, recover
 from .release_check import ready
 from .snapshots import snapshot, watch
-from .steps.conversion import RecordingOptions, convert
+from .steps.conversion import RecordingOptions, convert, more_endings
 
 KNOWN: list[object] = []  # data of the last converted log; kept until exit, because freeing it is slow
 
@@ -54,10 +54,10 @@ def record(options: argparse.Namespace, go: Go) -> int:
             and POSSIBLE in (options.fail_on or ())
         )
         return status_of(results.status, bad, options.strict and not results.all_recorded)
-    base = base_name(options.o)
-    look(base)
+    base, is_typed = base_name(options.o), options.o is not None
+    look(base, is_typed)
     folder = claim(logs_folder(options.points))
-    making = RecordingMaker(folder, base, go, wish_of(options))
+    making = RecordingMaker(folder, base, go, wish_of(options), is_typed=is_typed)
     try:
         status = shell_status(GoRunner(command, folder, limits_of(options)).wait(making.so_far))
         making.all(status != 0)
@@ -100,13 +100,13 @@ def convert_log(options: argparse.Namespace) -> int:
     status: int = ExitStatus.DONE
     for index, log in enumerate(logs, 1):
         KNOWN.clear()
-        saying, is_written = ReportPrinter(log.head(), stream=sys.stdout), index > written
+        wish, saying = wish_of(options), ReportPrinter(log.head(), stream=sys.stdout)
+        name = numbered(base, index, options.o is not None, more_endings(wish))
+        is_written = index > written and not log.fault
         try:
-            outcome = convert(
-                log.path, numbered(base, index), go, wish_of(options), KNOWN, saying.hear, is_written and not log.fault
-            )
+            outcome = convert(log.path, name, go, wish, KNOWN, saying.hear, is_written)
         except OSError as fault:
-            complain(unwritten(numbered(base, index), fault))
+            complain(unwritten(name, fault))
             status = ExitStatus.TROUBLE
             continue
         saying.rest(outcome.lines)

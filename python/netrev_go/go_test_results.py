@@ -21,13 +21,13 @@ from netrev.system.program_path import BUILT, netrev_program
 from netrev.text.plain import plain
 
 from .go_command.build_errors import NO_PACKAGE, unbuilt_in
-from .go_command.outputs import LONGEST_ENDING, numbered
+from .go_command.outputs import LONGEST_ENDING, PAGE, numbered, of_test
 from .go_command.running import logs_in, shell_status
 from .go_command.toolchain import Go
 from .log.logfile import NotALogError, read_log
 from .log.tests_in_log import Ran, Tests, of_log
 from .recordings import ReportPrinter, complain, say, unwritten
-from .steps.conversion import ReadLog, RecordingOptions, converted
+from .steps.conversion import ReadLog, RecordingOptions, converted, more_endings
 from .steps.forms import TestResult, unbuilt
 from .steps.report import Conversion, Hear, unheard
 
@@ -65,6 +65,7 @@ class Recordings:
     ) -> None:
         self.base, self._go, self._wish, self._keeps_all = base, go, options, keeps_all
         self._is_page_wanted = is_page_wanted
+        self._more = [PAGE] * is_page_wanted + more_endings(options)
         self.told: dict[tuple[str, str], TestResult] = {}
         self.unbuilt: dict[str, TestResult] = {}  # the packages that Go couldn't build
         self._names: set[pathlib.Path] = set()  # the file names of the recordings
@@ -110,7 +111,8 @@ class Recordings:
         if self._short.setdefault(short, package) != package:
             short = package.replace("/", "_")
         name = self.base / file_name(short, test) if test else self.base / file_name(short)
-        free = next(path for path in (numbered(name, number) for number in count(1)) if path not in self._names)
+        names = (numbered(name, number, False, self._more, of_test(package, test)) for number in count(1))
+        free = next(path for path in names if path not in self._names)
         self._names.add(free)
         return free
 

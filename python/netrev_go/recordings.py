@@ -19,7 +19,7 @@ from .go_command.run_folders import release, remove, unrecorded
 from .go_command.running import LOGS, logs_in, process_of, still_written
 from .go_command.toolchain import Go
 from .log.tests_in_log import forget
-from .steps.conversion import RecordingOptions, convert
+from .steps.conversion import RecordingOptions, convert, more_endings
 
 
 def say(lines: list[str], stream: TextIO | None = None) -> None:
@@ -115,8 +115,15 @@ class RecordingMaker:
     """Makes the recordings of a folder's logs."""
 
     def __init__(
-        self, folder: pathlib.Path, base: pathlib.Path, go: Go | None, options: RecordingOptions, count: int = 0
+        self,
+        folder: pathlib.Path,
+        base: pathlib.Path,
+        go: Go | None,
+        options: RecordingOptions,
+        count: int = 0,
+        is_typed: bool = False,
     ) -> None:
+        self._is_typed = is_typed  # whether the user typed the name of the recordings
         self._folder, self._base, self._go, self._wish = folder, base, go, options
         self._times = 0
         self._is_whole = False  # whether the logs can be removed without losing anything
@@ -138,7 +145,8 @@ class RecordingMaker:
         if report_no_log(self._folder, failed):
             self.trouble = not self._folder.is_dir()
         else:
-            self.all_taken, self.count = self._make(self._base, replace(self._wish, failed=failed), self.count)
+            wish = replace(self._wish, failed=failed)
+            self.all_taken, self.count = self._make(self._base, wish, self.count, self._is_typed)
             self._is_whole = self.all_taken
         if report_unrecorded(self._folder):
             self.all_taken = False
@@ -147,12 +155,15 @@ class RecordingMaker:
         """Removes the logs, unless there is a reason to keep them."""
         leave(self._folder, keep, self._is_whole, self._running)
 
-    def _make(self, base: pathlib.Path, options: RecordingOptions, count: int) -> tuple[bool, int]:
+    def _make(
+        self, base: pathlib.Path, options: RecordingOptions, count: int, is_typed: bool = False
+    ) -> tuple[bool, int]:
         """Makes a recording of each log in which sockets were opened; returns whether netrev accepts all, and how many
         recordings have this name."""
         ok, before, without = True, count, 0
         for log in logs_in(self._folder):
-            name, saying = numbered(base, count + 1), ReportPrinter([])
+            name = numbered(base, count + 1, is_typed, more_endings(options))
+            saying = ReportPrinter([])
             try:
                 outcome = convert(log, name, self._go, options, hear=saying.hear)
             except OSError as fault:

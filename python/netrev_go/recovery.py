@@ -41,14 +41,14 @@ def offer() -> None:
 
 def recover(options: argparse.Namespace, base: pathlib.Path, go: Go | None, recording_options: RecordingOptions) -> int:
     """Makes recordings of all interrupted runs, and removes the logs whose recordings netrev accepts."""
-    look(base, "")
+    look(base, options.o is not None, "")
     runs = [run for run in left_runs() if take_over(run)]
     if not runs:
         say([messages.NONE_INTERRUPTED])
     status, count = ExitStatus.DONE, 0
     for run in runs:
         say([f"{named(run)}:"])
-        making = RecordingMaker(run.folder, base, go, recording_options, count)
+        making = RecordingMaker(run.folder, base, go, recording_options, count, options.o is not None)
         try:
             making.all(True)
         finally:

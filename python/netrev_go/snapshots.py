@@ -24,7 +24,7 @@ from .log.notes import PARKED
 from .log.points import Log
 from .log.source_lines import Calls, SourceRoots, lines_of
 from .recordings import ReportPrinter, complain, say, unwritten
-from .steps.conversion import RecordingOptions, convert, program_of
+from .steps.conversion import RecordingOptions, convert, more_endings, program_of
 from .steps.report import line_of
 from .steps.where import own_line
 
@@ -126,7 +126,7 @@ def snapshot(
     options: argparse.Namespace, go: Go | None, recording_options: RecordingOptions, known: list[object]
 ) -> int:
     """Makes a recording of a running process at once."""
-    look(base_name(options.o, "snapshot"), "")
+    look(base_name(options.o, "snapshot"), options.o is not None, "")
     return record_now(log_of_process(options.pid), options, go, recording_options, known)
 
 
@@ -138,7 +138,8 @@ def record_now(
     known: list[object],
 ) -> int:
     """Makes a recording of a log that a process writes."""
-    name, saying = numbered(base_name(options.o, "snapshot"), 1), ReportPrinter(log.head())
+    base, saying = base_name(options.o, "snapshot"), ReportPrinter(log.head())
+    name = numbered(base, 1, options.o is not None, more_endings(recording_options))
     try:
         outcome = convert(log.path, name, go, recording_options, known, saying.hear, not log.fault)
     except OSError as fault:
@@ -152,7 +153,7 @@ def watch(options: argparse.Namespace, go: Go | None, recording_options: Recordi
     """Makes a recording of a process when one of its calls has waited as long as --stuck says. If the process executes
     another program, its new log is watched."""
     log, start = log_of_process(options.pid), start_of(options.pid)
-    look(base_name(options.o, "snapshot"), "")
+    look(base_name(options.o, "snapshot"), options.o is not None, "")
     if not log.fault:
         complain(messages.WATCHING.format(process=options.pid))
     try:

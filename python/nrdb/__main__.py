@@ -4,5 +4,10 @@ from netrev.system.immediate_exit import ended_by
 
 from .cli import main
 
-if __name__ == "__main__":
+
+def program() -> None:
     ended_by(main)
+
+
+if __name__ == "__main__":
+    program()

@@ -1,16 +1,17 @@
 """The command line of nrdb. Its exit statuses are netrev's: 0 done, 1 the recording was refused, 2 usage error, 3 the
-file, the program or the connection failed. nrdb adds 4 for findings of --suspects, --explore or --explore-failures.
+file, the program or the connection failed. nrdb adds 4 for findings of --suspects or --explore.
 Modules that few sessions need are imported on first use, so that the prompt appears sooner."""
 
 import argparse
 import gc
 import io
 import os
+import re
 import shlex
 import shutil
 import sys
 from collections.abc import Callable, Sequence
-from contextlib import closing, nullcontext
+from contextlib import ExitStack, closing, nullcontext
 from functools import partial
 
 from netrev.connection.arriving_changes import ArrivingChanges
@@ -32,6 +33,7 @@ from .options import parsed, parser
 from .prompt.answers import ANSWERS
 
 DONE, REFUSED, USAGE, FAILED, SUSPECTS = range(5)
+FAULT = re.compile(r"((line|step) \d+: )?fault \d+")  # the beginning of netrev's reply if it rejects a recording
 
 
 def main(words: Sequence[str] | None = None) -> int:
@@ -61,9 +63,9 @@ def run(wanted: argparse.Namespace, printer: Printer) -> int:
     """Runs the requested session, reports how the session ended, and returns the exit status."""
     try:
         status = start(wanted, printer)
-    except NetrevEndedError as ended:
+    except NetrevEndedError:
         printer.note(messages.NETREV_ENDED)
-        status = ended.status if ended.status and ended.status > 0 else FAILED
+        status = FAILED
     except (ScoutUnavailableError, MismatchedRecordingError, NotARecordingError, StrangeReplyError) as wrong:
         printer.note(str(wrong))
         status = FAILED
@@ -97,37 +99,46 @@ def start(wanted: argparse.Namespace, printer: Printer) -> int:
     with closing(opened(wanted, interrupts, printer)) as netrev:
         try:
             return begun(wanted, netrev, interrupts, printer)
-        except (Exception, KeyboardInterrupt):
+        except BaseException:
             netrev.drop()
             raise
 
 
 def begun(wanted: argparse.Namespace, netrev: Netrev, interrupts: Interrupts, printer: Printer) -> int:
     """Runs a session with this netrev to its end, and returns the exit status."""
-    with interrupts.held(lambda: printer.note(messages.STILL_READING)) if has_prompt(wanted) else nullcontext():
-        session = session_of(wanted, netrev, interrupts, printer)
-        first = session.ask("info position")
-    try:
+    with ExitStack() as at_the_end:
+        with interrupts.held(lambda: printer.note(messages.STILL_READING)) if has_prompt(wanted) else nullcontext():
+            session = session_of(wanted, netrev, interrupts, printer)
+            at_the_end.callback(drop_others, session)
+            first = session.ask("info position")
         if not POSITION.fullmatch(first):
             return refused(wanted, netrev, first, printer)
         session.begin(first)
         if session.recording and session.recording.lines.fault:
             printer.note(session.recording.lines.why_unused(wanted.file))
         status = played(session, wanted)
-    finally:
-        if session.scout and session.recorded:
-            session.scout.drop()
-            session.recorded.drop()
-        if session.recording and session.recording.suspects:
-            session.recording.suspects.drop()
-    ended = netrev.close()
+    ended = known_status(netrev.close())
     status = status or (FAILED if session.errors else DONE)
     return status if wanted.web is not None else ended or status  # (the page may have started another netrev)
 
 
+def known_status(status: int | None) -> int:
+    """netrev's exit status; FAILED if it is none of netrev's."""
+    return (status or DONE) if status in (None, DONE, REFUSED, USAGE, FAILED) else FAILED
+
+
+def drop_others(session: Session) -> None:
+    """Ends each netrev of a session, other than the one that answers its lines."""
+    if session.scout and session.recorded:
+        session.scout.drop()
+        session.recorded.drop()
+    if session.recording and session.recording.suspects:
+        session.recording.suspects.drop()
+
+
 def has_prompt(wanted: argparse.Namespace) -> bool:
     """Whether a user types at a terminal, where Ctrl-C may be meant for something other than the session."""
-    ends = wanted.batch or wanted.suspects or wanted.explore or wanted.explore_failures or wanted.web is not None
+    ends = wanted.batch or wanted.suspects or wanted.explore or wanted.web is not None
     return sys.stdin.isatty() and not ends and all(getattr(wanted, name) is None for name in WRITERS)
 
 
@@ -158,12 +169,12 @@ def session_of(wanted: argparse.Namespace, netrev: Netrev, interrupts: Interrupt
 
 def refused(wanted: argparse.Namespace, netrev: Netrev, first: str, printer: Printer) -> int:
     """Reports that netrev's first reply is a fault, explains a fault in a recording, and returns the exit status."""
-    if wanted.join and not first.startswith("fault "):
+    if not (first.startswith("fault ") if wanted.join else FAULT.match(first)):
         raise StrangeReplyError("info position", first)
     printer.reply("", Reply(first), "")
     for line in explained(wanted.netrev, wanted.file, first) if wanted.file else ():
         printer.note(line)
-    return netrev.close() or REFUSED
+    return known_status(netrev.close()) or REFUSED
 
 
 def opened(wanted: argparse.Namespace, interrupts: Interrupts, printer: Printer) -> Netrev:
@@ -183,8 +194,8 @@ def played(session: Session, wanted: argparse.Namespace) -> int:
             return DONE
     if wanted.suspects:
         return unless_stopped(session, lambda: suspected(session))
-    if wanted.explore or wanted.explore_failures:
-        return unless_stopped(session, lambda: schedules_tried(session, wanted.explore_failures))
+    if wanted.explore:
+        return unless_stopped(session, lambda: schedules_tried(session))
     for name, write in WRITERS.items():
         if (file := getattr(wanted, name)) is not None:
             return unless_stopped(session, partial(write_file, session, file, write, wanted.part))
@@ -216,11 +227,11 @@ def suspected(session: Session) -> int:
     return SUSPECTS if table.rows else DONE
 
 
-def schedules_tried(session: Session, is_of_failures: bool) -> int:
+def schedules_tried(session: Session) -> int:
     """Explores, and returns the exit status."""
     from netrev.explore import explored
 
-    result = explored(session, is_of_failures=is_of_failures)
+    result = explored(session)
     session.printer.note(result.text)
     return SUSPECTS if result.found else DONE
 

@@ -4,6 +4,7 @@ import argparse
 from collections.abc import Sequence
 from typing import Any, NoReturn
 
+from netrev.system.command_lines import file_word
 from netrev.system.program_path import BUILT, netrev_program
 from netrev.system.provenance import program_lines
 from netrev.system.version import VERSION
@@ -75,11 +76,6 @@ def parser() -> Words:
         help="run schedules near the recorded one after -x and -ex, print those that end with a suspect, and exit; the status is 4 if "
         "there are any",
     )
-    options.add_argument(
-        "--explore-failures",
-        action="store_true",
-        help="like --explore, for schedules in which a call that succeeded fails",
-    )
     options.add_argument("--join", metavar="HOST:PORT", help="join a session that `netrev serve` shares")
     options.add_argument(
         "--dap", action="store_true", help="serve an editor over standard input and output (Debug Adapter Protocol)"
@@ -109,4 +105,5 @@ def parsed(words: Sequence[str]) -> argparse.Namespace:
         part = []
     wanted = parser().parse_args([*words[:at], *words[at + len(part) :]])
     wanted.part = part
+    wanted.file = wanted.file and file_word(wanted.file)
     return wanted

@@ -9,14 +9,16 @@ from typing import NamedTuple
 from netrev.findings.suspects.ranking import suspects_of
 from netrev.messages import searches as messages
 from netrev.recording.recording import Recording
-from netrev.reduce.reduced import Reducing, Wanted, answered_recording, reduced_of
-from netrev.reduce.writing import answered_by, text_of, write_recording
+from netrev.reduce.reduced import Reduced, Reducing, Wanted, answered_recording, reduced_of
+from netrev.reduce.writing import answered_by, text_of, where_text, write_recording
+from netrev.recording.where import SourceLines
 from netrev.run.index import run_of
+from netrev.session.files import derived
 from netrev.session.session import Session, UsageError
 from netrev.system.interrupts import SearchInterruptedError
+from netrev.text.files import has
 from netrev.text.vocabulary import number_of
 
-from .failures import explaining_steps, watched
 from .hangs import moved_by
 from .numbered_state import ImpossibleScheduleError
 from .script import script_of
@@ -24,19 +26,16 @@ from .search import ScheduleFinding, Search
 from .sentences import FindingSentences, summary
 from .workers import Share, processors, run_all
 
-FAILURES = "failures"
 MOST, GREATEST = 3_000, 1_000_000
 MOST_STEPS = 100_000
 SECONDS = 0.2  # seconds between two lines of progress
 
 
 def answer_explore(session: Session, words: list[str]) -> None:
-    is_of_failures = words[:1] == [FAILURES]
-    rest = words[is_of_failures:]
-    number = number_of(rest[0]) if len(rest) == 1 else MOST if not rest else None
+    number = number_of(words[0]) if len(words) == 1 else MOST if not words else None
     if number is None or not 0 < number <= GREATEST:
         raise UsageError(messages.EXPLORE.format(most=GREATEST))
-    session.printer.note(explored(session, number, is_of_failures).text)
+    session.printer.note(explored(session, number).text)
 
 
 class Explored(NamedTuple):
@@ -46,9 +45,8 @@ class Explored(NamedTuple):
     found: int
 
 
-def explored(session: Session, most: int = MOST, is_of_failures: bool = False) -> Explored:
-    """Runs schedules near the recorded one, and writes those that end with a suspect or a call that hangs. If
-    `is_of_failures`, it writes those in which a call fails although it succeeded in the recording instead."""
+def explored(session: Session, most: int = MOST) -> Explored:
+    """Runs schedules near the recorded one, and writes those that end with a suspect or a call that hangs."""
     recording = session.text()
     if recording.length > MOST_STEPS:
         raise UsageError(messages.TOO_LONG.format(most=MOST_STEPS))
@@ -57,8 +55,6 @@ def explored(session: Session, most: int = MOST, is_of_failures: bool = False) -
     begun = time.monotonic()
     try:
         script = script_of(answered)
-        if is_of_failures:
-            script.watched = watched(script)
         search = Search(script, recording.lines.words)
     except ImpossibleScheduleError as why:
         raise UsageError(messages.NOT_CALLS.format(why=why)) from None
@@ -111,41 +107,47 @@ class FindingFiles:
 
     def write(self, at: int, finding: ScheduleFinding, times: int) -> list[str]:
         """Writes a finding's recording and the reduced recording; returns the lines about them."""
-        recording, run = self.sentences.recording, finding.run
-        file = f"{Path(self.session.path).stem}-other-{at}.jsonl"
+        recording, run, of = self.sentences.recording, finding.run, self.session.path
         data = text_of(run.world, run.world.limits.buf, run.pairs(), recording.has_answers)
         status, output = answered_by(self.session.program, "check", data)
         if status:
             fault = output.decode("utf-8", "replace").strip()
             return [messages.SCHEDULE_REFUSED.format(finding=at, fault=fault)]
-        write_recording(file, self.session.path, data, recording.lines, [step.number for step in run.steps])
-        accepted = output.decode("utf-8", "replace").strip()
-        *lines, unless = self.sentences.finding(at, finding, times, file)
-        lines.append(f"   netrev: {accepted}")
-        lines.append(f"   short:  {self._shortened(file, finding)}")
+        lines_beside = where_text(recording.lines, [step.number for step in run.steps])
+        endings = {".jsonl": has(data), ".where": has(lines_beside.encode())}
+        short: Reduced | None = None
+        why = ""
+        try:
+            short = self._shortened(data, lines_beside, finding)
+            endings |= {f"-short{ending}": owns for ending, owns in short.endings().items()}
+        except UsageError as wrong:
+            why = str(wrong)
+        finally:
+            base = derived(Path(f"{Path(of).stem}-other-{at}"), of, endings)
+            write_recording(f"{base}.jsonl", of, data, lines_beside)
+        if short:
+            write_recording(f"{base}-short.jsonl", of, short.data, short.lines)
+            why = short.words(f"{base}-short.jsonl", len(run.steps))
+        *lines, unless = self.sentences.finding(at, finding, times, f"{base}.jsonl")
+        lines.append(f"   netrev: {output.decode('utf-8', 'replace').strip()}")
+        lines.append(f"   short:  {why}")
         return [*lines, unless]
 
-    def _shortened(self, file: str, finding: ScheduleFinding) -> str:
-        """Reduces a finding's recording; returns the line about the reduced recording."""
-        whole = Recording.read(file)
-        short = f"{Path(file).stem}-short.jsonl"
-        reducing = Reducing(whole, self.session.path, self.session.program, self.session.interrupts.check)
-        try:
-            return reduced_of(reducing, short, self._wanted(whole, finding)).words(whole.length)
-        except UsageError as wrong:
-            return str(wrong)
+    def _shortened(self, data: bytes, lines: str, finding: ScheduleFinding) -> Reduced:
+        """A finding's recording, reduced; raises UsageError if a replay doesn't show the finding."""
+        whole = Recording(data)
+        whole.lines = SourceLines(lines, whole.length)
+        reducing = Reducing(whole, self.session.program, self.session.interrupts.check)
+        return reduced_of(reducing, self._wanted(whole, finding))
 
     def _wanted(self, whole: Recording, finding: ScheduleFinding) -> Wanted:
-        """The target of the reduced recording. The target is the finding's suspect, or the goroutine that hangs after
-        both settings of its deadline, or the call that fails, with its cause."""
+        """The target of the reduced recording: the finding's suspect, or the goroutine that hangs after both settings of
+        its deadline."""
         if finding.suspect:
             shown = [suspect for suspect in suspects_of(whole).suspects if suspect.is_shown]
             subjects = [suspect.subject for suspect in shown]
             number = subjects.index(finding.suspect.subject) + 1 if finding.suspect.subject in subjects else 1
             return Wanted(number, "", "", whole.length)
         run = finding.run
-        if run.failed and finding.reason:
-            stays = explaining_steps(self.sentences.script, run.failed, finding.reason, run.steps)
-            return Wanted(0, "", "", whole.length, steps=stays)
         steps = moved_by(self.sentences.script, finding.hangs, run.places[finding.hangs], run.steps)
         return Wanted(0, "", "", whole.length, finding.hangs, steps)

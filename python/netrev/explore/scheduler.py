@@ -21,7 +21,6 @@ from .control_flow import (
     place_after,
 )
 from .environment import CHANGING, GOROUTINE, NETWORK, UNKNOWN, Actor, Environment, steps_past_deadline
-from .failures import OVER, Failed, fault_of
 from .numbered_state import AnsweredStep, NumberedState
 from .orders import OrderProgress
 from .schedules import Delay
@@ -54,10 +53,7 @@ class Scheduler:
         self.orders = OrderProgress(script.orders, script.triggers, self.places)
         self.pending: dict[int, PendingStep] = {}  # the next step of each goroutine that is due
         self.diverged: set[int] = set()  # the goroutines whose last steps the recording doesn't have
-        # whether a step got an answer in NEWS that differs from the recorded answer, or a watched call failed
-        self.has_news = False
-        self.failed: Failed | None = None  # the first watched call that failed
-        self.is_over = False  # whether the failed call has ended
+        self.has_news = False  # whether a step got an answer in NEWS that differs from the recorded answer
         self.paused: dict[int, float] = {}  # the goroutines that pause, each with the time at which its pause ends
         self.asleep: set[int] = set()
         self.missing: list[Actor] = []  # the actors that wait until their object exists
@@ -132,7 +128,7 @@ class Scheduler:
     def run(self, until: float, most: int) -> None:
         """Runs everything that is due before a time, until `most` steps have been made."""
         most -= self.before
-        while self._due and self._due[0][0] < until and len(self.steps) < most and not self.is_over:
+        while self._due and self._due[0][0] < until and len(self.steps) < most:
             self.now, _, actor = heappop(self._due)
             if actor[0] == GOROUTINE:
                 self._take_turn(actor[1])
@@ -144,7 +140,7 @@ class Scheduler:
         while True:
             self.run(NEVER, most)
             step = next(self.environment.remaining_steps(self.state), None)
-            if step is None or self.step_count() >= most or self.is_over:
+            if step is None or self.step_count() >= most:
                 return
             self._make(step, 0)
 
@@ -221,8 +217,6 @@ class Scheduler:
             self._continue(g)
             return
         answer = self._make(step, number)
-        if self.script.watched:
-            self._watch(g, place.operation)
         status = self.state.machine.goroutines[g][0]
         self.places[g] = self._place_after(g, self.steps[-1], operation, status)
         if step[0] == "sockopen":
@@ -267,15 +261,6 @@ class Scheduler:
             d = self.state.descriptors.get(operation.use)
             return d is None or self.state.machine.descs[d].words["rw".index(operation.side)] != "ready"
         return operation.cause in self.environment.events
-
-    def _watch(self, g: int, operation: int) -> None:
-        """Records the first watched call that fails, and the end of that call."""
-        step = self.steps[-1]
-        begins = self.script.watched.get((g, operation))
-        if self.failed is None and begins is not None and (why := fault_of(step)):
-            self.failed, self.has_news = Failed(g, begins, self.step_count(), why), True
-        if self.failed and self.failed.goroutine == g:
-            self.is_over = step.step[0] in OVER or step.answer == ("no",)
 
     # ---- the environment
 

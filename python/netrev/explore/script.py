@@ -2,7 +2,7 @@
 machine's answer differs from the recorded answer, a goroutine may continue with an operation other than the next."""
 
 from collections.abc import Iterator
-from dataclasses import dataclass, field, replace
+from dataclasses import dataclass, replace
 from typing import Any, NamedTuple
 
 from netrev.recording.recording import Recording
@@ -49,9 +49,6 @@ class Script:
     answers: list[tuple[Any, ...]]
     # for each goroutine, the orders that the recorder saw the program impose; None if the recording has no orders
     orders: list[list[Order]] | None = None
-    # the calls that succeeded and may fail: the key is a goroutine and an operation of a call, and the value is the
-    # call's first operation
-    watched: dict[tuple[int, int], int] = field(default_factory=dict)
 
 
 def script_of(recording: Recording) -> Script:

@@ -1,5 +1,5 @@
-"""Runs schedules, and keeps the schedules that end with a suspect or with a call that hangs or fails, one for each rule
-and place."""
+"""Runs schedules, and keeps the schedules that end with a suspect or with a call that hangs, one for each rule and
+place."""
 
 from bisect import bisect_left, bisect_right
 from collections import Counter
@@ -16,7 +16,6 @@ from netrev.run.changes import PlayedSteps
 from netrev.text.contents import Answer, Limits, Step
 
 from .control_flow import ScriptPlace
-from .failures import FAILS, Failed, Reason, failing_delays, faults_of, reason_of
 from .hangs import hangs, waits_for_ever
 from .numbered_state import AnsweredStep, ImpossibleScheduleError
 from .scheduler import Scheduler
@@ -41,7 +40,6 @@ class Run:
     places: list[ScriptPlace]
     sockets: dict[int, int]  # the numbers of sockets, keyed by their numbers in the recording
     has_news: bool
-    failed: Failed | None = None
     # the changes of each step; None if the rules aren't asked about this run
     changes: list[list[str]] | None = field(default=None, compare=False)
 
@@ -50,14 +48,13 @@ class Run:
 
 
 class ScheduleFinding(NamedTuple):
-    """A schedule's result: a suspect, a goroutine that hangs, or a call that fails."""
+    """A schedule's result: a suspect, or a goroutine that hangs."""
 
     key: Key
     suspect: Suspect | None
     hangs: int  # the goroutine that hangs, or -1
     schedule: Schedule
     run: Run
-    reason: Reason | None = None  # for a call that fails
 
 
 class Search:
@@ -73,13 +70,10 @@ class Search:
         self._copies: list[Scheduler] = []
         self._copy_times: list[int] = []  # the times at which the copies were made
         self.delays = single_delays(self.script)
-        if self.script.watched:
-            self.delays = list(dict.fromkeys([*failing_delays(self.script), *self.delays]))
         self.seed = 0  # the last seed that gave a schedule
         self.recorded = self._run_recorded()
         self._parked = {g for g, status in enumerate(self.recorded.world.goroutines) if status[0] == "parked"}
         self.known = {finding.key for finding in self._findings(Schedule((), 0), self.recorded)}
-        self.known |= {(FAILS, self._place(g, begins), why) for g, begins, why in faults_of(self.script)}
 
     def _run_recorded(self) -> Run:
         """Runs the recorded schedule, and keeps copies of the state along the way."""
@@ -93,15 +87,13 @@ class Search:
         scheduler.finish(self._most)
         self._steps = scheduler.steps
         run = self._run_of(scheduler)
-        if self.script.watched:
-            return run
         self._changes = undone(scheduler.state.machine)
         return replace(run, changes=self._changes)
 
     def _run_of(self, scheduler: Scheduler) -> Run:
         steps = self._steps[: scheduler.before] + scheduler.steps
         world, sockets = scheduler.state.machine.world(), scheduler.state.sockets
-        return Run(steps, world, scheduler.places, sockets, scheduler.has_news, scheduler.failed)
+        return Run(steps, world, scheduler.places, sockets, scheduler.has_news)
 
     def run(self, most: int, tell: Callable[[], None]) -> None:
         """Runs this number of schedules; calls `tell` after each of them."""
@@ -157,8 +149,6 @@ class Search:
         for at in range(bisect_right(self._copy_times, last), len(self._copy_times)):
             scheduler.run(self._copy_times[at], self._most)
             copy = self._copies[at]
-            if scheduler.is_over:
-                break
             if not scheduler.has_news:
                 if scheduler.is_equivalent_to(copy):
                     return None
@@ -179,7 +169,7 @@ class Search:
         """The run with the changes of its steps, if the rules are asked about it. This undoes the scheduler's steps. The
         steps before them are recorded ones, and so are the steps after them, which follow the first `rest` recorded
         steps."""
-        if self.script.watched or not self._may_differ(run):
+        if not self._may_differ(run):
             return run
         changes = self._changes[: scheduler.before] + undone(scheduler.state.machine) + self._changes[rest:]
         return replace(run, changes=changes)
@@ -192,9 +182,6 @@ class Search:
         return run.has_news or bool(parked - self._parked)
 
     def _findings(self, schedule: Schedule, run: Run) -> Iterator[ScheduleFinding]:
-        if self.script.watched:
-            yield from self._failure(schedule, run)
-            return
         ranked = suspects_of(PlayedSteps((step.step for step in run.steps), run.changes))
         suspects = [suspect for suspect in ranked.suspects if self._is_finding(suspect, run)]
         for suspect in suspects:
@@ -205,18 +192,6 @@ class Search:
                 operation = self.script.goroutines[g][run.places[g].operation]
                 number = operation.steps[0] if operation.steps else 0
                 yield ScheduleFinding((HANG, self.line_of(number) or (g, operation.socket)), None, g, schedule, run)
-
-    def _failure(self, schedule: Schedule, run: Run) -> Iterator[ScheduleFinding]:
-        """The first call that fails, if the failure is worth reporting."""
-        failed = run.failed
-        if failed and (reason := reason_of(self.script, failed, run.steps)):
-            key = FAILS, self._place(failed.goroutine, failed.begins), failed.why
-            yield ScheduleFinding(key, None, -1, schedule, run, reason)
-
-    def _place(self, g: int, begins: int) -> Any:
-        """The place where a call begins: the program's line if known, else the goroutine and the socket."""
-        operation = self.script.goroutines[g][begins]
-        return self.line_of(operation.steps[0]) or (g, operation.socket)
 
     def _is_finding(self, suspect: Suspect, run: Run) -> bool:
         """Whether a suspect counts as a finding: it depends on the order of steps, and a goroutine that was woken

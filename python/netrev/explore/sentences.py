@@ -7,7 +7,6 @@ from netrev.recording.recording import Recording
 from netrev.run.index import RunIndex
 from netrev.text.plurals import counted
 
-from .failures import FAILS, Failed, Reason, Why
 from .hangs import moved_by
 from .schedules import Delay
 from .script import Script
@@ -80,8 +79,6 @@ class FindingSentences:
         return lines
 
     def _head(self, finding: ScheduleFinding, file: str) -> str:
-        if finding.run.failed and finding.reason:
-            return f"{FAILS}, in {file}: {self._fails(finding.run.failed, finding.reason, finding)}"
         if finding.suspect:
             return f"{finding.suspect.rule}, in {file}: {finding.suspect.sentence()}"
         g = finding.hangs
@@ -93,26 +90,6 @@ class FindingSentences:
         set_at, moved_at = moved_by(self.script, g, finding.run.places[g], finding.run.steps)
         says = f"goroutine {g} is parked without a deadline, since step {moved_at} moved that of step {set_at}"
         return f"{finding.key[0]}, in {file}: {named}{ended} hangs: {says}"
-
-    def _fails(self, failed: Failed, reason: Reason, finding: ScheduleFinding) -> str:
-        """A sentence about the call that fails, and the reason."""
-        first = self.script.goroutines[failed.goroutine][failed.begins]
-        call = self.call_of(failed.goroutine, first.steps[0])
-        named = self._named(call) if call else f"a call on socket {first.socket}"
-        steps = f"steps {call.first} to {call.last}" if call else f"from step {first.steps[0]} on"
-        sentence = f"goroutine {failed.goroutine}'s {named}, which went well in the recording ({steps}), fails at step {failed.step}"
-        return f"{sentence}: {self._why(failed.why, reason, finding)}"
-
-    def _why(self, why: Why, reason: Reason, finding: ScheduleFinding) -> str:
-        if why is Why.BROKEN:
-            return "its other end is closed, or its writing side is shut"
-        step = finding.run.steps[reason.step - 1].step
-        if why is Why.CLOSED:
-            return f"goroutine {step[1]} closes the socket before, at step {reason.step}"
-        if not reason.served:
-            return f"goroutine {step[1]} sets its deadline in the past before, at step {reason.step}"
-        calls = f"{counted(reason.served, 'call')} before it had ended well"
-        return f"its deadline, which goroutine {step[1]} set at step {reason.step} and under which {calls}, passes"
 
 
 def summary(search: Search, seconds: float, is_stopped: bool) -> str:

@@ -1,6 +1,6 @@
 """Messages of explore, reduce, report, timeline and trace."""
 
-EXPLORE = "explore [failures] [N]: N is the number of schedules, from 1 to {most}"
+EXPLORE = "explore [N]: N is the number of schedules, from 1 to {most}"
 TOO_LONG = "explore takes at most {most} steps: reduce the recording, or record less"
 NOT_CALLS = "explore replays calls of Go, and this recording isn't made of them: {why}"
 PROGRESS = "{played} of {most} schedules, {found} found; Ctrl-C stops it"

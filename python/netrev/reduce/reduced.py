@@ -8,22 +8,22 @@ from typing import NamedTuple
 from netrev.findings.suspects.ranking import suspects_of
 from netrev.messages import searches as messages
 from netrev.recording.recording import Recording
-from netrev.session.files import spare
 from netrev.session.session import Session, UsageError
 from netrev.text.contents import Limits
+from netrev.text.files import Owns, has
 from netrev.text.vocabulary import cell_of, number_of
 
 from .events import Events
 from .replay import ReplayPlayer
 from .shrinking import NotReproducedError, Shrinking
-from .targets import CellTarget, HangTarget, ReductionTarget, StepsTarget, SuspectTarget
+from .targets import CellTarget, HangTarget, ReductionTarget, SuspectTarget
 from .units import UnitKind, units_of
-from .writing import answered_by, taken, write_recording
+from .writing import answered_by, taken, where_text
 
 
 class Wanted(NamedTuple):
-    """The target of a reduction: the suspect with this number, a cell with a value at a step, a goroutine that hangs,
-    or only the steps in `steps`. These steps must also stay if a goroutine hangs."""
+    """The target of a reduction: the suspect with this number, a cell with a value at a step, or a goroutine that
+    hangs; then the steps in `steps` must stay too."""
 
     suspect: int
     cell: str
@@ -34,43 +34,45 @@ class Wanted(NamedTuple):
 
 
 class Reduced(NamedTuple):
-    """A reduced recording: the numbers that its steps had in the original, the number of removed units of each kind,
-    and whether the reduction ran to its end."""
+    """A reduced recording: its text, its NAME.where, the numbers that its steps had in the original, the number of
+    removed units of each kind, and whether the reduction ran to its end."""
 
-    path: str
+    data: bytes
+    lines: str
     numbers: list[int]
     left_out: Counter[UnitKind]
     is_done: bool
 
-    def words(self, steps: int) -> str:
-        """The size of the result, and what the reduction removed, as text."""
+    def words(self, path: str, steps: int) -> str:
+        """The size of the result in this file, and what the reduction removed, as text."""
         parts = [
             f"{self.left_out[sort]} {sort.value[self.left_out[sort] != 1]}" for sort in UnitKind if self.left_out[sort]
         ]
         left = f"left out {', '.join(parts)}" if parts else "nothing could be left out"
         more = "" if self.is_done else "; stopped early, so reduce what is left once more"
-        return f"{self.path}: {len(self.numbers)} of {steps} steps, accepted by netrev; {left}{more}"
+        return f"{path}: {len(self.numbers)} of {steps} steps, accepted by netrev; {left}{more}"
+
+    def endings(self) -> dict[str, Owns]:
+        """The endings of its files, and which files it may replace."""
+        return {".jsonl": has(self.data), ".where": has(self.lines.encode())}
 
 
 class Reducing(NamedTuple):
-    """The input of a reduction: a recording and its file, netrev's program, and the check for Ctrl-C."""
+    """The input of a reduction: a recording, netrev's program, and the check for Ctrl-C."""
 
     recording: Recording
-    path: str
     program: str
     check: Callable[[], None]
 
 
-def reduced(session: Session, path: str, wanted: Wanted) -> Reduced:
-    """Writes the reduced recording to the path, with its NAME.where; raises UsageError if a replay of the recording
-    doesn't show the target."""
-    spare(path, session.path)
-    return reduced_of(Reducing(session.text(), session.path, session.program, session.interrupts.check), path, wanted)
+def reduced(session: Session, wanted: Wanted) -> Reduced:
+    """The session's recording, reduced; raises UsageError if a replay of the recording doesn't show the target."""
+    return reduced_of(Reducing(session.text(), session.program, session.interrupts.check), wanted)
 
 
-def reduced_of(reducing: Reducing, path: str, wanted: Wanted) -> Reduced:
-    """Writes the reduced form of any recording to the path, as `reduced` does for a session's recording."""
-    recording, of, program, check = reducing
+def reduced_of(reducing: Reducing, wanted: Wanted) -> Reduced:
+    """The reduced form of any recording."""
+    recording, program, check = reducing
     answered = answered_recording(program, recording, wanted.until)
     events = Events(answered)
     units = units_of(events)
@@ -83,9 +85,8 @@ def reduced_of(reducing: Reducing, path: str, wanted: Wanted) -> Reduced:
         raise UsageError(messages.NOT_SHOWN) from None
     data = taken(program, player, recording.has_answers)
     numbers = [events.all[place].number for place in player.chosen]
-    write_recording(path, of, data, recording.lines, numbers)
     left_out = Counter(unit.sort for at, unit in enumerate(units) if at not in kept)
-    return Reduced(path, numbers, left_out, not shrinking.is_done)
+    return Reduced(data, where_text(recording.lines, numbers), numbers, left_out, not shrinking.is_done)
 
 
 def answered_recording(program: str, recording: Recording, until: int) -> Recording:
@@ -99,8 +100,6 @@ def answered_recording(program: str, recording: Recording, until: int) -> Record
 def _target(events: Events, recording: Recording, wanted: Wanted) -> ReductionTarget:
     if wanted.hangs >= 0:
         return HangTarget(events, wanted.hangs, wanted.steps, wanted.until)
-    if wanted.steps:
-        return StepsTarget(events, wanted.steps)
     if wanted.cell:
         return CellTarget(events, wanted.cell, wanted.value, wanted.until)
     found = [suspect for suspect in suspects_of(recording).suspects if suspect.is_shown]

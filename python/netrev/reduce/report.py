@@ -65,21 +65,21 @@ def link_to_page(page: str) -> str:
     return f"The timeline, for any browser: [{shown(name)}]({quote(name)})"
 
 
-def report_of(session: Session, wanted: Wanted, reduced: Reduced, page: str) -> str:
-    """Writes the timeline of a reduced recording to `page`, and returns the recording's report."""
+def report_of(session: Session, wanted: Wanted, reduced: Reduced, path: str, page: str) -> str:
+    """Writes the timeline of a reduced recording in a file to `page`, and returns the recording's report."""
     try:
-        recording = read_with_changes(session.program, reduced.path)
+        recording = read_with_changes(session.program, path)
     except IncompleteChangesError as fault:
         raise UsageError(str(fault)) from None
     assert recording.changes
-    file = file_word(Path(reduced.path).name)
+    file = file_word(Path(path).name)
     name = shown(file)
-    scout = Scout(lambda: NetrevProcess(session.program, reduced.path, session.interrupts))
+    scout = Scout(lambda: NetrevProcess(session.program, path, session.interrupts))
     try:
         table = suspects_table(scout, recording)
         parts = _of_cell(scout, recording, wanted) if wanted.cell else _of_suspect(session, table, wanted)
         story = None if wanted.cell else next(suspects_data(scout, recording), None)
-        write_page(PageSources(recording, reduced.path, scout, recording.changes, 0, [], show_progress), page)
+        write_page(PageSources(recording, path, scout, recording.changes, 0, [], show_progress), page)
     finally:
         scout.drop()
     _, checked = answered_by(session.program, "check", recording.data)

@@ -114,18 +114,6 @@ class HangTarget(CellTarget):
         return not player.world.descs[status[1]].deadlines["rw".index(status[2])]
 
 
-class StepsTarget(ReductionTarget):
-    """Steps that must remain with their answers: a call that fails, and its cause."""
-
-    def __init__(self, events: Events, steps: Sequence[int]) -> None:
-        self.steps = list(steps)
-        self.required = {number - 1 for number in steps}
-        self.socket = events.socket_of(events.all[steps[-1] - 1])
-
-    def shows(self, player: ReplayPlayer) -> bool:
-        return self.required.issubset(player.chosen)
-
-
 def _back(numbers: dict[int, int], number: int) -> int:
     """The object with this number. If several objects have had the number, it is the last of them."""
     return max(which for which, its in numbers.items() if its == number)

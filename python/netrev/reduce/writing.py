@@ -14,7 +14,7 @@ from netrev.recording.where import SourceCall, SourceLines, Stack
 from netrev.session.files import spare, written
 from netrev.session.session import UsageError
 from netrev.text.contents import Answer, Limits, Step
-from netrev.text.files import forget_where
+from netrev.text.files import check_beside, forget_where
 from netrev.text.writer import line_of
 
 from .replay import ReplayPlayer
@@ -59,7 +59,9 @@ def _needs_answers(steps: Sequence[tuple[Step, Answer]]) -> bool:
 
 
 def where_text(lines: SourceLines, numbers: Sequence[int]) -> str:
-    """NAME.where for these steps, which are renumbered from 1."""
+    """NAME.where for these steps, which are renumbered from 1; empty if no lines are known."""
+    if not lines:
+        return ""
     calls: dict[SourceCall, int] = {}
     stacks: dict[Stack, int] = {}
     rows: list[dict[str, Any]] = [{"where": 1, "steps": len(numbers)}]
@@ -85,13 +87,15 @@ def where_text(lines: SourceLines, numbers: Sequence[int]) -> str:
     return "".join(f"{json.dumps(row, separators=(',', ':'))}\n" for row in rows)
 
 
-def write_recording(path: str, of: str, data: bytes, lines: SourceLines, numbers: Sequence[int]) -> None:
-    """Writes these steps of the recording `of` as a recording, with its NAME.where. An existing NAME.where is removed,
-    because it belongs to another recording."""
+def write_recording(path: str, of: str, data: bytes, lines: str) -> None:
+    """Writes a part of the recording `of` as a recording, with its NAME.where if it has lines. An existing NAME.where
+    is removed, because it belongs to another recording."""
     beside = Path(path).with_suffix(".where")
     spare(str(beside), of)
-    written(path, of, data)
-    if lines:
-        written(str(beside), of, where_text(lines, numbers).encode())
-    else:
+    try:
+        check_beside(beside)
+    except OSError as error:
+        raise UsageError(f"{beside}: {error.strerror}") from None
+    written(of, {path: data} | ({str(beside): lines.encode()} if lines else {}))
+    if not lines:
         forget_where(beside)

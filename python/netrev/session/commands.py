@@ -91,9 +91,8 @@ OF_NRDB = {
         ),
         command("report OUT.md [N | CELL VALUE]", "like reduce, and describes the result in Markdown"),
         command(
-            "explore [failures] [N]",
-            "runs N schedules near the recorded one, 3000 by default, and writes those that end with a suspect; with `failures`, those "
-            "in which a call that succeeded fails",
+            "explore [N]",
+            "runs N schedules near the recorded one, 3000 by default, and writes those that end with a suspect",
         ),
         command("source FILE", "runs the commands in a file"),
         command("save breakpoints FILE", "writes the lines that set the marks again, for source FILE"),

@@ -21,7 +21,7 @@ class Interrupts:
     """Delays Ctrl-C in the context `held`."""
 
     def __init__(self) -> None:
-        self._is_pressed = False
+        self._is_pressed = self._was_pressed = False
         self._is_given_up = False
         self._stops_at_once = False
         self._shields = 0
@@ -31,7 +31,8 @@ class Interrupts:
     def held(self, first: Callable[[], None] = lambda: None) -> Iterator[None]:
         """Context in which Ctrl-C is remembered and reported by `check`; a second Ctrl-C raises SessionAbandonedError.
         `first` is called at the first Ctrl-C."""
-        self._is_pressed, self._first = False, first
+        self._is_pressed = self._was_pressed = False
+        self._first = first
         before = signal.signal(signal.SIGINT, self._handle)
         try:
             yield
@@ -64,6 +65,11 @@ class Interrupts:
         """Forgets an earlier Ctrl-C after the interrupted work has ended."""
         self._is_pressed = False
 
+    def end_if_pressed(self) -> None:
+        """Raises KeyboardInterrupt if Ctrl-C was pressed in the last context `held`, even if `check` has reported it."""
+        if self._was_pressed:
+            raise KeyboardInterrupt
+
     def give_up(self) -> None:
         """Raises SessionAbandonedError, as does each later request."""
         self._is_given_up = True
@@ -73,7 +79,7 @@ class Interrupts:
         """Handles a Ctrl-C."""
         if self._is_pressed:
             self._is_given_up = True
-        self._is_pressed = True
+        self._is_pressed = self._was_pressed = True
         self.check_given_up()
         if self._stops_at_once and not self._shields:
             self.check()

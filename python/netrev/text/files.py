@@ -1,16 +1,24 @@
 """Writes files atomically: if a write fails, the old file stays."""
 
 import errno
+import hashlib
 import os
+import re
 import secrets
-from collections.abc import Iterator
-from contextlib import contextmanager, suppress
+import stat
+from collections.abc import Callable, Iterator, Mapping
+from contextlib import ExitStack, contextmanager, suppress
+from itertools import count
 from pathlib import Path
 from typing import IO, Any
 
 STREAMS = tuple(map(Path, ("/dev", "/dev/fd", "/proc/self/fd")))
 MOST_LINKS = 40  # the kernel follows at most this many links
-OF_LINES = b'{"where":'  # the beginning of a file of lines beside a recording (docs/reference/RECORDING.md)
+# the beginnings of the files beside a recording (docs/reference/RECORDING.md)
+BESIDE = {".where": re.compile(rb'\{"where":'), ".words": re.compile(rb'\[\d+, "lock ')}
+LONGEST_BEGIN = 40
+
+Owns = Callable[[Path], bool]  # whether a file may be replaced although nobody typed its name
 
 
 def beside(path: Path) -> Path:
@@ -24,26 +32,38 @@ def whole(path: Path, mode: str = "w") -> Iterator[IO[Any]]:
     written. A path that isn't a regular file, such as a pipe or /dev/stdout, is written to directly. A link is followed
     unless it belongs to another user."""
     try:
-        check_name(path)
-        check_links(path)
-        if path.exists() and (path.parent in STREAMS or not path.is_file()):
-            with open_for(path, mode) as direct:
-                yield direct
-            return
-        place = Path(os.path.realpath(path))
-        if place.exists() and not os.access(place, os.W_OK):
-            raise PermissionError(errno.EACCES, os.strerror(errno.EACCES))
-        part = beside(place)
-        try:
-            with open_for(part, mode.replace("w", "x")) as file:
-                yield file
-            os.replace(part, place)
-        except BaseException:
-            with suppress(OSError):
-                part.unlink()
-            raise
+        with replacing(path, mode) as file:
+            yield file
     except OSError as fault:
-        raise OSError(fault.errno, fault.strerror or str(fault), str(path)) from None
+        raise named(fault, path) from None
+
+
+def named(fault: OSError, path: Path) -> OSError:
+    """An error, with the name of the file that the caller meant."""
+    return OSError(fault.errno, fault.strerror or str(fault), str(path))
+
+
+@contextmanager
+def replacing(path: Path, mode: str) -> Iterator[IO[Any]]:
+    """`whole`, with the errors as they come."""
+    check_name(path)
+    check_links(path)
+    if path.exists() and (path.parent in STREAMS or not path.is_file()):
+        with open_for(path, mode) as direct:
+            yield direct
+        return
+    place = Path(os.path.realpath(path))
+    if place.exists() and not os.access(place, os.W_OK):
+        raise PermissionError(errno.EACCES, os.strerror(errno.EACCES))
+    part = beside(place)
+    try:
+        with open_for(part, mode.replace("w", "x")) as file:
+            yield file
+        os.replace(part, place)
+    except BaseException:
+        with suppress(OSError):
+            part.unlink()
+        raise
 
 
 def check_name(path: str | Path) -> None:
@@ -73,16 +93,70 @@ def open_for(path: Path, mode: str) -> IO[Any]:
     return open(path, mode, encoding=None if "b" in mode else "utf-8")
 
 
+def unused(base: Path, endings: Mapping[str, Owns], number: int = 1) -> Path:
+    """BASE, or the first of BASE-2, BASE-3 .. for which each name with one of these endings is free, or is a regular
+    file that may be replaced. Each file whose name the user didn't type gets its name here; a link is never free."""
+    for place in count(number):
+        name = base.with_name(base.name + (f"-{place}" if place > 1 else ""))
+        if all(is_free(name.with_name(name.name + ending), owns) for ending, owns in endings.items()):
+            return name
+    raise AssertionError
+
+
+def is_free(path: Path, owns: Owns) -> bool:
+    with suppress(OSError):
+        return not os.path.lexists(path) or stat.S_ISREG(os.lstat(path).st_mode) and owns(path)
+    return False
+
+
+def has(data: bytes) -> Owns:
+    """Whether a file contains exactly these bytes, and not none."""
+    return lambda path: 0 < len(data) == os.path.getsize(path) and path.read_bytes() == data
+
+
+def end_of_page(recording: bytes) -> str:
+    """The last line of a page, which names its recording."""
+    return f"<!-- netrev {hashlib.sha256(recording).hexdigest()} -->\n"
+
+
+def is_page_of(recording: bytes) -> Owns:
+    """Whether a file is the page of this recording."""
+    return lambda path: path.read_bytes().endswith(end_of_page(recording).encode())
+
+
+def is_beside(path: Path) -> bool:
+    """Whether a file has the form of the files beside a recording with this ending."""
+    if path.is_symlink() or not path.is_file():
+        return False
+    with open(path, "rb") as file:
+        return bool(BESIDE[path.suffix].match(file.read(LONGEST_BEGIN)))
+
+
+def check_beside(path: Path) -> None:
+    """Raises an OSError if a file beside a recording would replace a file of another kind, or lead through a link."""
+    if os.path.lexists(path) and not is_beside(path):
+        raise OSError(errno.EEXIST, "this file isn't from netrev, so the recording needs another name", str(path))
+
+
 def forget_where(path: Path) -> None:
     """Removes NAME.where if it belongs to an earlier recording of that name; any other file stays."""
-    if path.is_file():
-        with open(path, "rb") as file:
-            is_ours = file.read(len(OF_LINES)) == OF_LINES
-        if is_ours:
-            path.unlink()
+    if is_beside(path):
+        path.unlink()
 
 
 def written_whole(path: Path, data: bytes) -> None:
     """Writes these bytes; raises an OSError that names the file if that fails."""
-    with whole(path, "wb") as file:
-        file.write(data)
+    written_together({path: data})
+
+
+def written_together(contents: Mapping[Path, bytes]) -> None:
+    """Writes several files: all or, if one can't be written, none. Raises an OSError that names that file."""
+    path = Path()
+    try:
+        with ExitStack() as files:
+            for path, data in contents.items():
+                file = files.enter_context(replacing(path, "wb"))
+                file.write(data)
+                file.flush()
+    except OSError as fault:
+        raise named(fault, path) from None

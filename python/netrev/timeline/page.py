@@ -16,6 +16,7 @@ from netrev.session.files import writing
 from netrev.session.session import Session, UsageError
 from netrev.system.garbage_collection import take_all_as_kept, without_collections
 from netrev.system.interrupts import Interrupts
+from netrev.text.files import end_of_page
 from netrev.text.plain import plain
 
 from .calls import Data
@@ -64,7 +65,7 @@ def write_page(shown: PageSources, path: str, window: Window | None = None) -> D
         data = collected(shown, window)
         shown.tell("")
         with writing(path, shown.path) as file:
-            file.write(page(data))
+            file.write(page(data) + end_of_page(shown.recording.data))
         take_all_as_kept()
     return data
 

@@ -3,15 +3,17 @@
 from __future__ import annotations
 
 import contextlib
+import json
 import os
 import pathlib
+from collections.abc import Iterable
 
 from netrev.messages import recorder as messages
-from netrev.text.files import beside, check_links
+from netrev.text.files import Owns, beside, check_links, is_beside, is_page_of, unused
 
 from .toolchain import RecorderError
 
-RECORDING, LINES, WORDS = ".jsonl", ".where", ".words"
+RECORDING, LINES, WORDS, PAGE = ".jsonl", ".where", ".words", ".html"
 LONGEST_ENDING = "-so-far-999.jsonl"
 TRIED = 65_536  # bytes written to test whether the disk has room
 
@@ -26,25 +28,48 @@ def base_name(given: str | None, otherwise: str = "recording") -> pathlib.Path:
     return base
 
 
-def numbered(base: pathlib.Path, number: int) -> pathlib.Path:
-    """NAME.jsonl, NAME-2.jsonl, .."""
-    return base.with_name(base.name + (f"-{number}" if number > 1 else "") + RECORDING)
+def numbered(
+    base: pathlib.Path, number: int, is_typed: bool = False, more: Iterable[str] = (), owns: Owns = lambda _: False
+) -> pathlib.Path:
+    """NAME.jsonl, NAME-2.jsonl, ..: the first from this number on that is free, as are NAME.where and the names with
+    `more` endings. NAME.jsonl itself is replaced if the user typed NAME."""
+    if number > 1 or not is_typed:
+        base = unused(base, dict.fromkeys((RECORDING, LINES, *more), owns), number)
+    return base.with_name(base.name + RECORDING)
 
 
-def look(base: pathlib.Path, more: str = messages.NOTHING_WAS_RUN) -> None:
+def of_test(package: str, test: str) -> Owns:
+    """Whether a file is of an earlier recording of this test: its NAME.where names the test."""
+    names = ({"test": test} if test else {}) | {"package": package}
+    key = json.dumps(names, separators=(",", ":"))[1:-1].encode()
+
+    def owns(path: pathlib.Path) -> bool:
+        recording, lines = path.with_suffix(RECORDING), path.with_suffix(LINES)
+        if not is_beside(lines) or key not in lines.read_bytes():
+            return False
+        return path.suffix != PAGE or recording.is_file() and is_page_of(recording.read_bytes())(path)
+
+    return owns
+
+
+def look(base: pathlib.Path, is_typed: bool = True, more: str = messages.NOTHING_WAS_RUN) -> None:
     """Raises RecorderError if a recording can't be written there now; `more` ends the message."""
     try:
         try_folder(base)
         with contextlib.suppress(FileNotFoundError):
             os.lstat(base.with_name(base.name + LONGEST_ENDING))
-        for ending in (RECORDING, LINES):
-            check_links(base.with_name(base.name + ending))
+        recording, lines = (base.with_name(base.name + ending) for ending in (RECORDING, LINES))
+        if is_typed:
+            check_links(recording)
     except OSError as fault:
         path, why = f"{base}{RECORDING}", fault.strerror
         raise RecorderError(messages.UNWRITABLE.format(path=path, why=why) + more) from None
-    for ending in (RECORDING, LINES):
-        name = base.with_name(base.name + ending)
-        if name.exists() and not (name.is_file() and os.access(name, os.W_OK)):
+    is_fit = {
+        recording: recording.is_file() or not recording.exists(),
+        lines: is_beside(lines) or not os.path.lexists(lines),
+    }
+    for name in is_fit if is_typed else ():
+        if not is_fit[name] or name.exists() and not os.access(name, os.W_OK):
             raise RecorderError(messages.EXISTS.format(path=name) + more)
 
 

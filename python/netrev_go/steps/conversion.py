@@ -9,7 +9,7 @@ from dataclasses import dataclass
 from functools import partial
 
 from netrev.messages import recorder as messages
-from netrev.text.files import forget_where
+from netrev.text.files import check_beside, forget_where
 from netrev.text.plain import plain
 from netrev_go.go_command.line_reader import line_reader
 from netrev_go.go_command.outputs import LINES, WORDS
@@ -49,6 +49,11 @@ class RecordingOptions:
     all_bytes: bool = False
     failed: bool = False  # Go's command failed, or a call hangs: the report begins with the causes
     first: int = 0  # the address of the lock word of a socket to keep before all others if not all fit
+
+
+def more_endings(options: RecordingOptions) -> list[str]:
+    """The endings of the files beside a recording, other than NAME.where."""
+    return [WORDS] if options.words else []
 
 
 def program_of(log: pathlib.Path, key: str) -> pathlib.Path:
@@ -105,6 +110,8 @@ def converted(
         return Conversion(False, [f"{plain(str(read.path))}: {fault}"], isinstance(fault, NoSocketError))
     if known is not None:
         known += (read, recording)
+    for ending in (LINES, *more_endings(options)):
+        check_beside(name.with_suffix(ending))
     found = recording.everybody
     if test is not None:
         found = goroutines_of(test, found, read.tests.ran, recording.numbers)

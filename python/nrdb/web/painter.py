@@ -19,6 +19,7 @@ from netrev.messages import browsers as texts
 from netrev.recording.recording import NotARecordingError, Recording
 from netrev.recording.suspect_list import SuspectList
 from netrev.session.session import UsageError
+from netrev.system.immediate_exit import heeded_signals
 from netrev.system.interrupts import Interrupts
 from netrev.timeline.cell_runs import Window
 from netrev.timeline.page import plain_json
@@ -28,6 +29,7 @@ from .page_server import UnavailableError
 
 CODE = f"import sys; sys.path[:0] = {sys.path!r}; from nrdb.web.painter import paint; paint(*sys.argv[1:])"
 MOST_WAITING = 16
+PATIENCE = 2  # seconds
 MOST_KEPT = 6  # the maximum number of stored parts
 TELLS, FAILS = b"T", b"F"  # the kinds of lines of the process that aren't pictures: progress, or an error
 
@@ -58,10 +60,14 @@ class Painter:
         return wanted
 
     def drop(self) -> None:
-        """Ends the process."""
+        """Ends the process, which first ends its own netrevs."""
         if self._process is not None:
-            self._process.kill()
-            self._process.wait()
+            self._process.terminate()
+            try:
+                self._process.wait(PATIENCE)
+            except subprocess.TimeoutExpired:
+                self._process.kill()
+                self._process.wait()
 
     def _run(self) -> None:
         while True:
@@ -110,6 +116,7 @@ class Painter:
 def paint(program: str, path: str) -> None:
     """Makes pictures until the input ends. Each line of the input requests a picture, and each picture is written as a
     line of the output."""
+    heeded_signals()
     interrupts = Interrupts()
     scout = Scout(lambda: NetrevProcess(program, path, interrupts))
     changes = ArrivingChanges(program, path, interrupts, lambda _: None)

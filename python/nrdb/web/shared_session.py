@@ -1,7 +1,8 @@
 """The session that the page's browsers share. This is nrdb's session, which also reports which browser moved it to
 which position. netrev reports only a session's position, so moves by other clients are noticed at the next check."""
 
-from collections.abc import Sequence
+from collections.abc import Callable, Sequence
+from contextlib import suppress
 from dataclasses import dataclass, field, fields
 from typing import Any, Protocol
 
@@ -12,6 +13,7 @@ from netrev.connection.shapes import LineRefusedError, ListedMark, Position
 from netrev.messages import browsers as texts
 from netrev.session.commands import whole_words
 from netrev.session.session import Answering, Session, UsageError
+from netrev.system.interrupts import SearchInterruptedError
 from nrdb.prompt.answers import ANSWERS, answer_list
 
 OTHERS = "another front"
@@ -99,6 +101,14 @@ class Shared(Session):
         self.user = user
         self.run(line)
         self.refresh()
+
+    def guarded(self, answer: Callable[[str], bool], what: str) -> bool:
+        """Answers a line. Ctrl-C stops it, as at the prompt, and ends the page."""
+        goes_on = True
+        with suppress(SearchInterruptedError), self.interrupts.held():
+            goes_on = answer(what)
+        self.interrupts.end_if_pressed()
+        return goes_on
 
     def attempt_line(self, line: str) -> bool:
         self.part = line

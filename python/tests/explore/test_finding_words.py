@@ -1,7 +1,6 @@
 """The text about findings in terms of calls, and the target of a finding's reduced recording and of a report."""
 
 from collections import Counter
-from collections.abc import Callable
 from typing import Any
 
 import pytest
@@ -96,31 +95,13 @@ def test_a_suspect_is_reduced_by_its_number(monkeypatch: pytest.MonkeyPatch, one
     assert wanted == Wanted(number, "", "", 9)
 
 
-@pytest.mark.parametrize(
-    ("failed", "reason", "wanted"),
-    [
-        (7, 8, Wanted(0, "", "", 9, steps=(1, 2))), (7, None, Wanted(0, "", "", 9, 3, (4, 5))), (None, None, Wanted(0, "", "", 9, 3, (4, 5))),
-    ],
-)  # fmt: skip
-def test_a_failure_or_a_hang_is_reduced_with_its_steps(
-    monkeypatch: pytest.MonkeyPatch, failed: Any, reason: Any, wanted: Wanted
-) -> None:
-    schedule = stub(failed=failed, places=[0, 1, 2, 3], steps=object())
-    finding, sentences = stub(suspect=None, reason=reason, hangs=3, run=schedule), stub(script=object())
+def test_a_hang_is_reduced_with_its_steps(monkeypatch: pytest.MonkeyPatch) -> None:
+    schedule = stub(places=[0, 1, 2, 3], steps=object())
+    finding, sentences = stub(suspect=None, hangs=3, run=schedule), stub(script=object())
     calls: list[tuple[Any, ...]] = []
-
-    def function_of(name: str, steps: tuple[int, int]) -> Callable[..., tuple[int, int]]:
-        def function(*arguments: Any) -> tuple[int, int]:
-            calls.append((name, *arguments))
-            return steps
-
-        return function
-
-    monkeypatch.setattr(commands, "explaining_steps", function_of("explaining_steps", (1, 2)))
-    monkeypatch.setattr(commands, "moved_by", function_of("moved_by", (4, 5)))
-    assert FindingFiles(stub(), sentences)._wanted(stub(length=9), finding) == wanted
-    name, numbers = ("moved_by", (3, 3)) if wanted.hangs == 3 else ("explaining_steps", (7, 8))
-    assert calls == [(name, sentences.script, *numbers, schedule.steps)]
+    monkeypatch.setattr(commands, "moved_by", lambda *arguments: (calls.append(arguments), (4, 5))[1])  # type: ignore[func-returns-value]
+    assert FindingFiles(stub(), sentences)._wanted(stub(length=9), finding) == Wanted(0, "", "", 9, 3, (4, 5))
+    assert calls == [(sentences.script, 3, 3, schedule.steps)]
 
 
 # ---- reports
@@ -164,4 +145,4 @@ def test_a_report_begins_with_its_own_suspect(monkeypatch: pytest.MonkeyPatch, n
     ],
 )  # fmt: skip
 def test_what_a_reduction_removed(left_out: dict[UnitKind, int], is_done: bool, says: str) -> None:
-    assert Reduced("x.jsonl", [1, 2, 5], Counter(left_out), is_done).words(9) == says
+    assert Reduced(b"", "", [1, 2, 5], Counter(left_out), is_done).words("x.jsonl", 9) == says

@@ -12,9 +12,10 @@ from netrev.recording.where import SourceLines
 from netrev.reduce.events import Events
 from netrev.reduce.replay import ReplayPlayer
 from netrev.reduce.shrinking import Shrinking
-from netrev.reduce.targets import CellTarget, HangTarget, StepsTarget
+from netrev.reduce.targets import CellTarget, HangTarget
 from netrev.reduce.units import Unit, units_of
 from netrev.reduce.writing import where_text, write_recording
+from netrev.session.session import UsageError
 from netrev.text.contents import Limits
 from netrev.text.writer import line_of
 from nrdb.prompt.completion import candidates
@@ -158,13 +159,17 @@ def test_lines_are_those_of_the_steps_that_are_kept() -> None:
 def test_lines_of_another_recording_go(folder: Path) -> None:
     lines = Recording.read(str(EXAMPLES / "real/past.jsonl")).lines
     path, beside = f"{folder}/x.jsonl", folder / "x.where"
-    write_recording(path, "", b"steps", lines, [5, 9])
+    write_recording(path, "", b"steps", where_text(lines, [5, 9]))
     assert (Path(path).read_bytes(), SourceLines.beside(path, 2).of(2)) == (b"steps", lines.of(9))
-    write_recording(path, "", b"steps", SourceLines(), [1])
+    write_recording(path, "", b"steps", where_text(SourceLines(), [1]))
     assert not beside.exists()
     beside.write_text("mine")
-    write_recording(path, "", b"steps", SourceLines(), [1])
-    assert beside.read_text() == "mine"
+    for text in ("", where_text(lines, [5, 9])):
+        with pytest.raises(
+            UsageError, match="x.where: this file isn't from netrev, so the recording needs another name"
+        ):
+            write_recording(path, "", b"other steps", text)
+    assert (beside.read_text(), Path(path).read_bytes()) == ("mine", b"steps")
 
 
 def reopened(socket: int) -> Steps:
@@ -231,4 +236,3 @@ def test_targets_know_their_socket() -> None:
     assert HangTarget(events, 1, [6], 9).socket == 0
     assert HangTarget(events, 1, [1, 5], 9).socket == 1
     assert HangTarget(events, 1, [1], 9).socket is None
-    assert StepsTarget(events, [6, 7]).socket == 0

@@ -10,9 +10,8 @@ import pytest
 
 from netrev.explore.control_flow import NEVER, MissingObjectError, Operation, ScriptPlace
 from netrev.explore.environment import CLOCK, MOST_TRIES, NETWORK, UNKNOWN, Environment, steps_past_deadline
-from netrev.explore.failures import Failed, Reason, Why, ends_of, explaining_steps, failing_delays, reason_of, watched
 from netrev.explore.hangs import ended_by
-from netrev.explore.numbered_state import AnsweredStep, NumberedState
+from netrev.explore.numbered_state import NumberedState
 from netrev.explore.orders import Order, OrderProgress, Trigger, orders_of, triggers_of
 from netrev.explore.scheduler import Scheduler
 from netrev.explore.schedules import Delay, Schedule
@@ -24,7 +23,13 @@ from netrev.run.flow import OperationType
 from netrev.text.contents import Limits, Step
 from tests.suspects.test_suspects import COMES, OPEN, PARK, READ, Steps, recording_of
 
-from .test_exploring_failures import CLOSES, READS, sets
+GETS: Steps = [["arrive", 0, "6869"], ["rwlock", 1, 0, "r"], ["pollreset", 1, 0, "r"], ["sysread", 1, 0, 16]]
+READS: Steps = [*GETS, ["rwunlock", 1, 0, "r"]]
+
+
+def sets(time: int) -> Steps:
+    return [["incref", 0, 0], ["setdeadline", 0, 0, "r", time], ["decref", 0, 0]]
+
 
 # ---- the orders that every schedule keeps
 
@@ -267,68 +272,6 @@ def test_the_simplest_schedule_is_kept_with_the_first_place() -> None:
     for first, second, kept in ((one, other, (9, 5)), (one, two, (5, 3)), (other, two, (9, 3))):
         assert (first.with_other(second).at, first.with_other(second).first) == kept
         assert first.with_other(second) == second.with_other(first)
-
-
-@pytest.mark.parametrize(
-    ("steps", "delays"),
-    [
-        (READS + sets(-1), [Delay(6, 10)]),  # the reset waits until the deadline in the past
-        (READS + sets(0), []),  # a deadline that is removed fails no call
-        (READS + sets(5), []),
-        (sets(-1) + [["incref", 0, 0], ["setdeadline", 0, 0, "r", 0], ["decref", 0, 0]] + READS, []),
-        (READS + [["incref", 1, 0], ["setdeadline", 1, 0, "r", -1], ["decref", 1, 0]], []),  # (its own)
-        (READS + [["incref", 0, 0], ["setdeadline", 0, 0, "w", -1], ["decref", 0, 0]], []),  # (the other side's)
-        (READS + sets(-1) + sets(-1), [Delay(6, 10)]),
-        (sets(5) + READS, []),
-        (sets(5) + READS + READS, [Delay(14, 17)]),  # until the deadline that was set for an earlier call has passed
-        (sets(5) + READS + sets(5) + READS, []),
-        (sets(5) + READS + READS + CLOSES, [Delay(13, 17), Delay(14, 21), Delay(8, 17)]),
-        (READS + CLOSES, [Delay(5, 9)]),
-        (READS + [["increfclose", 1, 0], ["evict", 1, 0], ["decref", 1, 0], ["pollclose", 1, 0]], []),
-    ],
-)
-def test_the_delays_in_which_a_call_may_fail(steps: Steps, delays: list[Delay]) -> None:
-    script = script_of(recording_of(OPEN + steps))
-    script.watched = watched(script)
-    assert failing_delays(script) == delays
-
-
-def made_of(numbers: list[int], time: int) -> list[AnsweredStep]:
-    """The steps of a schedule, by their numbers in the recording: step 5 sets a deadline at this time."""
-    return [
-        AnsweredStep(("setdeadline", 0, 0, "r", time) if one == 5 else ("tick", one), ("done",), one) for one in numbers
-    ]
-
-
-@pytest.mark.parametrize(
-    ("why", "numbers", "time", "reason", "stays"),
-    [
-        (Why.TIMED_OUT, [1, 5, 11, 0], 5, Reason(2, 1), (2, 3, 4)),
-        (Why.TIMED_OUT, [1, 5, 7, 11, 9, 0], 5, Reason(2, 1), (2, 4, 6)),
-        (Why.TIMED_OUT, [1, 11, 5, 7, 0], 5, None, ()),  # (no call ended under that deadline)
-        (Why.TIMED_OUT, [1, 5, 11, 16, 0], 5, Reason(2, 2), (2, 4, 5)),
-        (Why.TIMED_OUT, [1, 5, 11, 0, 16], 5, Reason(2, 1), (2, 3, 4)),
-        (Why.TIMED_OUT, [5, 11, 0], 5, Reason(1, 1), (1, 2, 3)),
-        (Why.TIMED_OUT, [1, 5, 11, 0], -1, Reason(2, 0), (2, 4)),
-        (Why.TIMED_OUT, [1, 5, 11, 0], 0, Reason(2, 0), (2, 4)),
-        (Why.TIMED_OUT, [1, 2, 11, 0], 5, None, ()),
-        (Why.CLOSED, [1, 5, 17, 11, 0], 5, Reason(3, 0), (3, 5)),
-        (Why.CLOSED, [1, 5, 11, 0], 5, None, ()),
-        (Why.BROKEN, [1, 5, 11, 0], 5, Reason(4, 0), (4,)),
-    ],
-)  # fmt: skip
-def test_why_a_call_fails(
-    why: Why, numbers: list[int], time: int, reason: Reason | None, stays: tuple[int, ...]
-) -> None:
-    """The calls end at steps 11 and 16, and step 17 closes the socket. The step with number 0 fails."""
-    script = script_of(recording_of(OPEN + sets(5) + READS + READS + CLOSES))
-    script.watched = watched(script)
-    assert {number for row in ends_of(script).values() for number in row} == {11, 16}
-    failed = Failed(1, 4, numbers.index(0) + 1, why)
-    steps = made_of(numbers, time)
-    assert reason_of(script, failed, steps) == reason
-    if reason:
-        assert explaining_steps(script, failed, reason, steps) == stays
 
 
 @pytest.mark.parametrize(

@@ -31,7 +31,7 @@ NAMES = (
     *(f"examples/races/{name}" for name in RACES),
 )  # fmt: skip
 LINES = (
-    "explore 120", "explore failures 60", "reduce out.jsonl", "report out.md", "reduce cell.jsonl lock 0 8", "report held.md lock 0 *", "report out.md 2",
+    "explore 120", "reduce out.jsonl", "report out.md", "reduce cell.jsonl lock 0 8", "report held.md lock 0 *", "report out.md 2",
     "explore 0", "reduce", "reduce out.jsonl 99", "report x.md lock 99 8",
 )  # fmt: skip
 ANSWERED = ("explore.commands", "reduce.writing", "reduce.reduced", "reduce.report")

@@ -20,6 +20,7 @@ from netrev_go.go_command.toolchain import RecorderError
 from netrev_go.go_test_results import Recordings
 from netrev_go.log import source_lines
 from netrev_go.steps import goroutine_records
+from netrev_go.steps.conversion import RecordingOptions
 from netrev_go.steps.goroutine_records import Everybody
 
 from tests.support.stubs import raising
@@ -270,7 +271,7 @@ def test_only_the_log_of_a_process_is_still_written(
 
     monkeypatch.setattr(cli, "log_of_process", lambda number: ProcessLog(Path(f"log.{number}")))
     monkeypatch.setattr(cli, "go_if_any", lambda: None)
-    monkeypatch.setattr(cli, "wish_of", lambda options: None)
+    monkeypatch.setattr(cli, "wish_of", lambda options: RecordingOptions())
     monkeypatch.setattr(cli, "convert", convert)
     assert cli.convert_log(argparse.Namespace(words_of_go=logs, pid=pid, o=None)) == 0
     assert "".join("1" if is_written else "0" for is_written in written) == running

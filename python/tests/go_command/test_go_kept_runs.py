@@ -127,6 +127,34 @@ def test_a_name_that_cannot_be_written_is_told_before_the_program_runs(run: Run)
         assert not (run.folder / "ran").exists(), name
 
 
+def test_only_a_name_that_was_typed_is_written_over(run: Run) -> None:
+    for name in ("recording.jsonl", "recording-3.where", "mine.jsonl", "mine-2.jsonl", "diary"):
+        (run.folder / name).write_text(name)
+    (run.folder / "recording-2.jsonl").symlink_to("diary")
+    before = sorted(os.listdir())
+    assert "recording-4.jsonl: " in run.called("run", "main.go")[1]
+    two = f'cp {run.log} "$NETREV_LOG.$$"; cp {run.log} "$NETREV_LOG.1$$"'
+    output = run.called("-o", "mine", "run", "main.go", leaves=two)[1]
+    assert "mine.jsonl: " in output and "mine-3.jsonl: " in output
+    texts = {path.name: path.read_text() for path in run.folder.iterdir() if path.name not in ("go", "stored")}
+    assert sorted(texts) == sorted({*before, "mine-3.jsonl", "recording-4.jsonl"} - {"stored"})
+    for name, text in texts.items():
+        is_new = name in ("recording-4.jsonl", "mine.jsonl", "mine-3.jsonl")
+        assert text == (WHOLE if is_new else "diary" if name == "recording-2.jsonl" else name)
+
+
+@pytest.mark.parametrize(
+    "make", [lambda path: path.write_text("mine"), lambda path: path.symlink_to("stored"), Path.mkdir]
+)
+def test_what_is_beside_a_recording_is_not_written_over(run: Run, make: Callable[[Path], object]) -> None:
+    make(run.folder / "mine.where")
+    returned, output = run.called("-o", "mine", "run", "main.go")
+    assert (returned, "mine.where exists and can't be overwritten" in output) == (ExitStatus.TROUBLE, True)
+    returned, output = run.called("-o", "mine", "convert", str(run.log))
+    assert (returned, (run.folder / "mine.jsonl").exists()) == (ExitStatus.TROUBLE, False)
+    assert "netrev-go: mine.where: this file isn't from netrev, so the recording needs another name" in output
+
+
 def test_a_folder_that_is_removed_meanwhile_loses_nothing(run: Run) -> None:
     (run.folder / "out").mkdir()
     returned, output = run.called("--strict", "-o", "out/x", "run", "main.go", does=f"rmdir {run.folder}/out")
@@ -147,6 +175,7 @@ def test_the_folder_in_which_it_is_called_may_be_removed(run: Run) -> None:
 
 def test_a_disk_that_is_full_leaves_what_stood_there(monkeypatch: pytest.MonkeyPatch, run: Run) -> None:
     (run.folder / "x.jsonl").write_text("an earlier one")
+    (run.folder / "x.where").write_text('{"where":1,"steps":0}')
 
     def full(file: Any, text: str) -> int:
         raise OSError(28, "No space left on device")
@@ -157,6 +186,7 @@ def test_a_disk_that_is_full_leaves_what_stood_there(monkeypatch: pytest.MonkeyP
     assert returned == 0, output
     assert "netrev-go: x.jsonl: No space left on device" in output
     assert (run.folder / "x.jsonl").read_text() == "an earlier one"
+    assert (run.folder / "x.where").read_text() == '{"where":1,"steps":0}'
     assert run.again(output) == WHOLE
     assert [name for name in os.listdir() if name.startswith(".netrev")] == []
 

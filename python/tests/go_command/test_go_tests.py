@@ -237,6 +237,25 @@ def test_the_recording_of_the_test_that_failed_is_kept(package: Tested) -> None:
     assert f"{PACKAGE} TestRed/a_part" in [name for _, _, name in lines.tests]
 
 
+def test_a_recording_replaces_only_an_earlier_one_of_its_test(package: Tested) -> None:
+    name, key = "toy.TestRed.a_part", b'"test":"TestRed/a_part"'
+    recording, lines, page = (package.folder / f"recordings/{name}{ending}" for ending in (".jsonl", ".where", ".html"))
+    package.told("test", ".")
+    lines.write_bytes(lines.read_bytes() + b" ")
+    page.write_text("mine")
+    package.told("test", ".")
+    assert (package.made(), lines.read_bytes()[-1:]) == ([recording.name], b"\n")
+    package.told("--html", "test", ".")
+    assert (package.made(), page.read_text()) == ([f"{name}-2.jsonl", recording.name], "mine")
+    lines.write_bytes(lines.read_bytes().replace(key, b'"test":"TestRed/another"'))
+    before = recording.read_bytes(), lines.read_bytes()
+    package.told("test", ".")
+    assert (package.made(), (recording.read_bytes(), lines.read_bytes())) == (
+        [f"{name}-2.jsonl", recording.name],
+        before,
+    )
+
+
 def test_all_are_kept_where_that_is_wanted(package: Tested) -> None:
     package.told("--all", "-o", "mine", "test", ".", status=0)
     assert package.made("mine") == ["toy.TestGreen.jsonl", "toy.TestRed.a_part.jsonl"]

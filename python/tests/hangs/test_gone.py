@@ -22,7 +22,6 @@ from netrev.findings.locks.group_counts import Count, count_of, count_sentence, 
 from netrev.findings.locks.needs_of_mutexes import of_once
 from netrev.findings.pools.slots import slot_holders
 from netrev.findings.pools.stopped_timers import of_timers, silent_at, silent_sentence
-from netrev.findings.pools.uncancelled_contexts import uncancelled
 from netrev.recording.goroutines import ADDED, DONE, FOR_VALUE, PUT, TOOK, At, GoGoroutine, ObjectUse, Timer
 from netrev.recording.recording import Recording
 from netrev.recording.waits import Name, ObjectWait, waits_of
@@ -393,43 +392,6 @@ def once(*numbers: int) -> Stack:
 def test_a_once_that_waits_for_itself(stack: Stack, begins: str | None) -> None:
     says = of_once(stack)
     assert says.startswith(begins) if begins else not says
-
-
-CONTEXTS = """\
-func (w *watcher) start(ctx context.Context) {
-	ctx, w.cancel = context.WithCancel(ctx)
-	go func() {
-		<-ctx.Done()
-	}()
-}
-
-func (w *watcher) stop() {
-	w.group.Wait()
-	w.cancel()
-}
-"""
-
-
-@pytest.mark.parametrize("at, is_later", [(9, True), (11, False)], ids=["before it", "behind it"])
-def test_a_context_that_is_cancelled_later(at: int, is_later: bool, tmp_path: Path) -> None:
-    file = tmp_path / "a.go"
-    file.write_text(CONTEXTS)
-    recording = with_lines(TWO_ENDS)
-    recording.lines.written = float("inf")
-    wait = ObjectWait(
-        Name(7, True),
-        1,
-        None,
-        "",
-        Stack((line(4, "(*watcher).start.func1", str(file)),), None),
-        None,
-        (At(1, FOR_VALUE),),
-    )
-    stopping = Stack((line(at, "(*watcher).stop", str(file)),), None)
-    need = uncancelled(recording, wait, [(Name(8, True), stopping)])
-    assert need is not None
-    assert (need.by == Name(8, True)) is is_later
-    assert bool(need.more) is not is_later
 
 
 def test_a_request_that_another_goroutine_wrote() -> None:

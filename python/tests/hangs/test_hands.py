@@ -1,17 +1,12 @@
 """Goroutines that failed to pass on a value or a turn, in recordings of tools/go/samples/hands (made by
 tests.trials.go_caused). In a bad run, the first cause names the line with the reason. In a good run, no cause names
-that line. Other tests are about variables that the goroutines of a loop share, and about Reads that may get only a
-part."""
-
-from pathlib import Path
+that line. Another test is about Reads that may get only a part."""
 
 import pytest
 
 from netrev.findings.causes.first_output import first_words
-from netrev.findings.evidence.loop_variables import shared_at, shared_variables
 from netrev.findings.streams.partial_reads import partial_lines
 from netrev.recording.recording import Recording
-from netrev.recording.where import OF_THE_PROGRAM, SourceCall
 from tests.failed_calls.test_causes import in_the_folder_of_the_source
 from tests.trials.go_caused import HANDS, NAMES, bug_line
 
@@ -41,58 +36,6 @@ def test_the_first_cause_has_the_reason(name: str) -> None:
     first = causes_of(stored(f"{name}-bad"))[0]
     assert line in first and more in first
     assert not any(more in cause for cause in causes_of(stored(f"{name}-good")))
-
-
-LOOPS = """\
-package main
-
-func watch(all []*backend) {
-	for _, one := range all {
-		go func() {
-			one.ping()
-		}()
-	}
-	for _, one := range all {
-		one := one
-		go func() {
-			one.ping()
-		}()
-	}
-	for _, one := range all {
-		go func(one *backend) {
-			one.ping()
-		}(one)
-	}
-	for i, one := range all {
-		go func() { first(i) }()
-	}
-	go func() {
-		all.one()
-	}()
-}
-"""
-
-
-@pytest.mark.parametrize(
-    "line, shared", [(5, [(4, "one")]), (11, []), (16, []), (21, [(20, "i")]), (23, [])]
-)  # fmt: skip
-def test_variables_of_loops_that_goroutines_share(line: int, shared: list[tuple[int, str]]) -> None:
-    source_call = SourceCall("main.watch", "a.go", line, OF_THE_PROGRAM)
-    assert list(shared_at(tuple(LOOPS.splitlines()), source_call)) == shared
-
-
-@pytest.mark.parametrize("module, is_shared", [("go 1.21\n", True), ("go 1.22\n", False), ("", False)])
-def test_the_language_of_a_module(tmp_path: Path, module: str, is_shared: bool) -> None:
-    file = tmp_path / "a.go"
-    file.write_text(LOOPS, encoding="utf-8")
-    (tmp_path / "go.mod").write_text(f"module a\n\n{module}", encoding="utf-8")
-    recording = stored("severed-bad")
-    recording.lines.written = float("inf")
-    goid, known = next(iter(recording.lines.goroutines.items()))
-    source_call = SourceCall("main.watch", str(file), 5, OF_THE_PROGRAM)
-    recording.lines.goroutines[goid] = known._replace(made=source_call)
-    says = [f"Perhaps all goroutines started at {file}:5 use the last one of the loop at {file}:4: the module's language is Go 1.21, in which they share it."]  # fmt: skip
-    assert shared_variables(recording, str(file)) == (says if is_shared else [])
 
 
 def test_reads_that_may_get_a_part() -> None:

@@ -8,7 +8,6 @@ import pytest
 
 from netrev.findings.causes import first_output, tables  # fmt: skip
 from netrev.findings.datagrams import datagrams  # fmt: skip
-from netrev.findings.evidence import loop_variables  # fmt: skip
 from netrev.findings.evidence.need import Certainty, Need
 
 from netrev.findings.handovers import dropped_answers  # fmt: skip
@@ -18,7 +17,7 @@ from netrev.findings.locks import skipped_done  # fmt: skip
 from netrev.findings.pools import leaking_paths, unclosed_channels  # fmt: skip
 from netrev.findings.streams import ends_of_reads, failed_dials, unpassed_ends, unread_bytes  # fmt: skip
 from netrev.recording.call import CLOSE, OPEN
-from netrev.recording.goroutines import ENDED, FOR_ROOM, FOR_VALUE, PUT, TOOK, At, ObjectUse
+from netrev.recording.goroutines import ENDED, FOR_ROOM, FOR_VALUE, PUT, TOOK, ObjectUse
 from netrev.recording.waits import Name
 from netrev.recording.where import OF_GO, OF_THE_PROGRAM, SourceCall, Stack
 from tests.failed_calls.test_cause_boundaries import line_of
@@ -90,23 +89,6 @@ def test_bytes_that_nobody_reads(change: dict[str, Any], count: int | None, monk
     )
     found = [(item.write, item.bytes, item.socket) for item in unread_bytes.unread(cast(Any, index), 20)]
     assert found == ([(wrote, count, 4)] if count else [])
-
-
-LOOP = ["func run() {", "\tfor _, v := range xs {", "\t\tgo func() {", "\t\t\tuse(v)", "\t\t}()", "\t}", "}"]
-
-
-@pytest.mark.parametrize(
-    "changed, start_line, found",
-    [
-        ({}, 3, [(2, "v")]), ({4: "\t\t\tuse(v.name) // v"}, 3, [(2, "v")]), ({4: "\t\t\tuse(x.v) // v"}, 3, []), ({4: "\t\t\tv := v"}, 3, []),
-        ({3: "\t\tv := v; go func() {"}, 3, []), ({3: "\t\tgo use(v)", 5: ""}, 3, []), ({3: "\t\teach(func() {", 4: "\t\t\tgo use(v)"}, 4, []),
-        ({2: "\tfor v := range xs {"}, 3, [(2, "v")]), ({2: "\tfor i, v := range xs {", 4: "\t\t\tuse(i, v)"}, 3, [(2, "i"), (2, "v")]),
-        ({2: "\tif v := x; v {"}, 3, []), ({2: "\tfor v, w := range xs {"}, 3, [(2, "v")]), ({1: "\tx = 1"}, 3, []),
-    ],
-)  # fmt: skip
-def test_variables_that_a_loop_shares(changed: dict[int, str], start_line: int, found: list[tuple[int, str]]) -> None:
-    lines = tuple(changed.get(number, text) for number, text in enumerate(LOOP, 1))
-    assert list(loop_variables.shared_at(lines, line_of(start_line, "main.run"))) == found
 
 
 @pytest.mark.parametrize(

@@ -36,6 +36,7 @@ from netrev_go.log.socket_facts import OF_UNIX, Beside
 from netrev_go.log.sockets import BUFFER, FEW_BYTES, OUTPUT, LoggedSocket
 from netrev_go.log.source_lines import Calls, LineCall
 from netrev_go.steps import analysis, compare, conversion, forms, recording_builder, report
+from netrev_go.steps.conversion import RecordingOptions
 
 from .test_go_logs import opened
 
@@ -180,7 +181,7 @@ def test_what_a_conversion_didn_t_print_yet_comes_at_its_end(monkeypatch: Patch,
         hear(["first"])
         return Made(lines=["first", "second"], taken=log.name != "b")
 
-    for name, fake in {"go_if_any": lambda: None, "wish_of": lambda options: None}.items():
+    for name, fake in {"go_if_any": lambda: None, "wish_of": lambda options: RecordingOptions()}.items():
         monkeypatch.setattr(cli, name, fake)
     monkeypatch.setattr(cli, "convert", convert)
     assert cli.convert_log(argparse.Namespace(words_of_go=["a", "b"], pid=None, o=None)) == ExitStatus.REFUSED
@@ -268,18 +269,18 @@ def test_the_status_of_recovered_runs(statuses: str, ends: int, monkeypatch: Pat
     folders: list[Path] = []
     runs = [Made(folder=Path(kind), command=kind, when=lambda: "today") for kind in statuses]
 
-    def made(folder: Path, base: Path, go: object, options: object, count: int) -> Made:
+    def made(folder: Path, base: Path, go: object, options: object, count: int, is_typed: bool) -> Made:
         kind = folder.name
         return Made(
             all=lambda failed: None, leave=left.append, count=count + 1, trouble=kind == "t", all_taken=kind == "a"
         )
 
     fakes: dict[str, Callable[..., object]] = {
-        "look": lambda base, more: folders.append(base), "left_runs": lambda: runs, "take_over": lambda run: True, "RecordingMaker": made,
+        "look": lambda base, is_typed, more: folders.append(base), "left_runs": lambda: runs, "take_over": lambda run: True, "RecordingMaker": made,
     }  # fmt: skip
     for name, fake in fakes.items():
         monkeypatch.setattr(recovery, name, fake)
-    assert recovery.recover(argparse.Namespace(keep=True), Path("x"), None, cast(Any, None)) == ends
+    assert recovery.recover(argparse.Namespace(keep=True, o=None), Path("x"), None, cast(Any, None)) == ends
     assert left == [True] * len(statuses) and folders == [Path("x")]
     errors = capsys.readouterr().err
     assert (f"{len(statuses)} recordings" in errors) is (len(statuses) > 1)
@@ -307,7 +308,7 @@ def test_the_recordings_of_a_run_s_processes(
     monkeypatch.setattr(messages, "NOTHING_TO_RECORD", "nothing")
     monkeypatch.setattr(messages, "OPENED_NONE", "{processes}")
     recording_maker = recordings.RecordingMaker(Path("logs"), Path("x"), None, cast(Any, None), 2)
-    assert recording_maker._make(Path("x"), cast(Any, None), 2) == (is_ok, count)
+    assert recording_maker._make(Path("x"), RecordingOptions(), 2) == (is_ok, count)
     assert recording_maker.suspected is suspected and recording_maker.trouble is ("w" in outcomes)
     assert says in capsys.readouterr().err
 
@@ -481,7 +482,7 @@ def test_a_write_has_as_many_steps_as_fit_into_the_output(
 
 
 def test_a_file_that_is_no_log_is_named_and_not_everything_is_recorded(tmp_path: Path, capsys: Output) -> None:
-    recordings = go_test_results.Recordings(tmp_path, cast(Any, None), cast(Any, None), False, False)
+    recordings = go_test_results.Recordings(tmp_path, cast(Any, None), RecordingOptions(), False, False)
     assert recordings.read(tmp_path / "log.1", cast(Any, None)) is None
     assert not recordings.all_recorded and str(tmp_path / "log.1") in capsys.readouterr().err
 
@@ -619,7 +620,7 @@ def test_recordings_of_a_running_program_are_numbered(monkeypatch: Patch) -> Non
 
     monkeypatch.setattr(recordings, "logs_in", lambda folder: [Path("log.1"), Path("log.2")])
     monkeypatch.setattr(recordings, "convert", convert)
-    recording_maker = recordings.RecordingMaker(Path("logs"), Path("x"), None, cast(Any, None))
+    recording_maker = recordings.RecordingMaker(Path("logs"), Path("x"), None, RecordingOptions())
     recording_maker.so_far()
     recording_maker.so_far()
     assert names == ["x-so-far-1.jsonl", "x-so-far-1-2.jsonl", "x-so-far-2.jsonl", "x-so-far-2-2.jsonl"]

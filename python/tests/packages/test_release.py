@@ -181,5 +181,5 @@ def test_make_release_asks_before_it_packs() -> None:
     assert [line.strip("\t@") for line in recipe[2:]] == [
         "sh scripts/unchanged.sh",
         "$(MAKE) --no-print-directory deb",
-        "sh scripts/release.sh $(VERSION)",
+        "sh scripts/release.sh $(call quoted,$(VERSION))",
     ]

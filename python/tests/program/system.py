@@ -243,7 +243,7 @@ GREATEST = ["--fronts=64", "--port", "65472", "--workers=16", "--journal", "1000
 ASKING: tuple[tuple[str, list[str]], ...] = (
     ("a name without letters", ["check", ""]),
     ("a name like an option's behind --", ["run", "--", "-x"]),
-    ("serve with its port alone", ["serve", "a", "--port", "47200"]),
+    ("serve with its port alone", ["serve", "a", "--port", "21840"]),
     ("serve with the greatest numbers", ["serve", *GREATEST, "a", "--connections", "4294967295", "--"]),
     ("serve with the least numbers", "serve a --port 1 --fronts 1 --workers 1 --journal 1 --connections 0".split()),
 )

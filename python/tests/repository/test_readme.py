@@ -1,10 +1,13 @@
 """README.md leads to each page and names only what exists; `make help` lists each target; modules of nrdb are as short
 as CONTRIBUTING.md says; and each crate's README says what a newcomer may change."""
 
+import os
 import re
 import subprocess
 import sys
 from pathlib import Path
+
+import pytest
 
 from netrev_go.log.sockets import MOST_GOROUTINES, MOST_SOCKETS, MOST_STEPS
 from netrev_go.options import COMMANDS, parser
@@ -103,3 +106,27 @@ def test_the_calls_that_stay_are_named() -> None:
         line = text.partition("\n\n")[0]
         named = {name for name in re.findall(r"`(\w+)`", line)}
         assert named == names, crate
+
+
+@pytest.mark.parametrize(
+    "target, name",
+    [("look", "FILE"), ("look", "SCRIPT"), ("hunt", "FILE"), ("fuzz", "SEED"), ("fuzz-around", "MINUTES"), ("mutants", "FILES")]
+    + [("real", "ONLY"), ("real", "TESTS"), ("real", "GO"), ("bench", "STEPS"), ("trials", "GO"), ("pace", "STEPS")],
+)  # fmt: skip
+@pytest.mark.parametrize("way", ["command line", "environment"])
+def test_make_hands_a_users_text_on_and_runs_nothing_in_it(target: str, name: str, way: str, tmp_path: Path) -> None:
+    text = f"'a`touch${{IFS}}{tmp_path}/ran`$(touch${{IFS}}{tmp_path}/ran)$(shell touch {tmp_path}/ran);>{tmp_path}/ran"
+    for program in ("python3", "sh"):
+        (tmp_path / program).write_text('#!/bin/sh\nfor word; do echo "<$word>"; done\n')
+        (tmp_path / program).chmod(0o755)
+    environment = os.environ | {"PATH": f"{tmp_path}:{os.environ['PATH']}", "NETREV": "/bin/true"}
+    words = [f"{name}={text}"] if way == "command line" else []
+    more = {} if words else {name: text}
+    ended = subprocess.run(["make", target, *words], cwd=ROOT, env=environment | more, capture_output=True, text=True)
+    is_default = bool(more) and (target, name) in (("look", "FILE"), ("hunt", "FILE"), ("fuzz-around", "MINUTES"))
+    is_list = name in ("FILES", "STEPS") or target == "trials"
+    wanted = [f"<{word}>" for word in (text.split() if is_list else [text])]
+    if target == "pace":
+        wanted = wanted[-1:]
+    assert [line for line in wanted if line not in ended.stdout.split("\n")] == (wanted if is_default else [])
+    assert not (tmp_path / "ran").exists()

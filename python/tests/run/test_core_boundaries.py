@@ -96,7 +96,7 @@ def test_a_rule_has_its_name_and_definition_from_its_module() -> None:
 
 
 WANTED: dict[str, Any] = {
-    "batch": False, "suspects": False, "explore": None, "explore_failures": None, "web": None, "timeline": None, "trace": None, "reduce": None,
+    "batch": False, "suspects": False, "explore": None, "web": None, "timeline": None, "trace": None, "reduce": None,
 }  # fmt: skip
 
 
@@ -104,7 +104,7 @@ WANTED: dict[str, Any] = {
     "change, is_terminal, has_prompt",
     [
         ({}, True, True), ({}, False, False), ({"batch": True}, True, False), ({"suspects": True}, True, False), ({"explore": 9}, True, False),
-        ({"explore_failures": 9}, True, False), ({"web": 0}, True, False), ({"timeline": "a"}, True, False), ({"trace": "a"}, True, False),
+        ({"web": 0}, True, False), ({"timeline": "a"}, True, False), ({"trace": "a"}, True, False),
         ({"reduce": "a"}, True, False),
     ],
 )  # fmt: skip

@@ -15,7 +15,7 @@ from netrev.recording.waits import Name, name_of_goid, waits_of
 from netrev.recording.where import MOST_BYTES, MOST_LINE, SourceLines
 from netrev.session.files import written
 from netrev.session.session import UsageError
-from netrev.text.files import whole, written_whole
+from netrev.text.files import end_of_page, has, is_page_of, unused, whole, written_together, written_whole
 
 FIRST = {"where": 1, "steps": 2}
 CALL = {"call": 1, "function": "main.main", "file": "main.go", "line": 3, "of": "program"}
@@ -200,9 +200,39 @@ def test_the_recording_is_never_written_over(folder: Path) -> None:
     other.symlink_to(path)
     for name in (path, other, path.with_suffix(".where")):
         with pytest.raises(UsageError, match="is the recording itself, or its NAME.where"):
-            written(str(name), str(path), b"page")
-    written(str(folder / "c"), str(path), b"page")
+            written(str(path), {str(folder / "c"): b"page", str(name): b"page"})
+    written(str(path), {str(folder / "c"): b"page"})
     assert (path.read_text(), (folder / "c").read_text()) == ("steps", "page")
+
+
+def test_a_name_that_nobody_typed_is_free_or_has_the_same_contents(folder: Path) -> None:
+    recording, base = b"steps", folder / "a"
+    endings = {".jsonl": has(recording), ".html": is_page_of(recording), ".where": has(b"")}
+    assert unused(base, endings) == base
+    (folder / "a.jsonl").write_bytes(recording)
+    (folder / "a.html").write_text(f"page{end_of_page(recording)}")
+    assert unused(base, endings) == base
+    assert unused(base, endings, 3) == folder / "a-3"
+    (folder / "a-2.jsonl").symlink_to("a.jsonl")
+    (folder / "a-3.jsonl").symlink_to("nowhere")
+    (folder / "a-4.html").write_text(f"page{end_of_page(b'other steps')}")
+    (folder / "a-5.html").mkdir()
+    (folder / "a-6.jsonl").write_bytes(b"Steps")
+    for name in ("a.where", "a-7.where"):
+        (folder / name).write_text("")
+    assert unused(base, endings) == folder / "a-8"
+
+
+def test_files_are_written_together_or_none_of_them(folder: Path) -> None:
+    for name in "ab":
+        (folder / name).write_text("before")
+    with pytest.raises(OSError) as failed:
+        written_together({folder / "a": b"after", folder / "none/c": b"after", folder / "b": b"after"})
+    assert failed.value.filename == str(folder / "none/c")
+    assert [(name, (folder / name).read_text()) for name in sorted(os.listdir(folder))] == [
+        ("a", "before"),
+        ("b", "before"),
+    ]
 
 
 def text_of(lines: list[Any]) -> bytes:

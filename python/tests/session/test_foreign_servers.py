@@ -247,3 +247,26 @@ def test_words_of_the_command_line() -> None:
             status, output = nrdb(*words)
             assert status in (2, 3)
             assert unseen(output) == []
+
+
+@pytest.mark.parametrize(
+    "does, note",
+    [
+        ("exec yes", ": it answered"), ("echo a; exit 77", ": it answered"), ("cat", ": it answered"), ("exit 1", "netrev has ended"),
+        ("exit 77", "netrev has ended"), ("kill -9 $$", "netrev has ended"), ("echo at 0 of 10 forward; read line; exit 77", None),
+    ],
+)  # fmt: skip
+def test_a_program_that_isnt_netrev_has_one_status(does: str, note: str | None, folder: Path) -> None:
+    program = folder / "netrev"
+    program.write_text(f"#!/bin/sh\n{does}\n")
+    program.chmod(0o755)
+    status, output = nrdb("--netrev", program, "--batch", FIRST)
+    assert (status, note is None or note in output.splitlines()[-1]) == (3, True)
+
+
+def test_a_recording_may_be_named_as_an_option_is(folder: Path, monkeypatch: pytest.MonkeyPatch) -> None:
+    monkeypatch.chdir(folder)
+    Path("-x.jsonl").write_bytes(FIRST.read_bytes())
+    Path("netrev").write_text('#!/bin/sh\n[ "$2" = ./-x.jsonl ] && echo at 0 of 10 forward && cat\n')
+    Path("netrev").chmod(0o755)
+    assert nrdb("--netrev", "./netrev", "--batch", "--", "-x.jsonl")[1].startswith("at 0 of 10 forward\n")

@@ -11,7 +11,7 @@ from netrev.findings.handovers import dropped_requests, needs_of_channels  # fmt
 from netrev.findings.hangs import needs  # fmt: skip
 from netrev.findings.http import rpc_calls  # fmt: skip
 from netrev.findings.locks import needs_of_mutexes  # fmt: skip
-from netrev.findings.pools import balances, made_channels, sibling_channels, slots  # fmt: skip
+from netrev.findings.pools import balances, made_channels, slots  # fmt: skip
 from netrev.findings.pools.senders import Giving
 
 from netrev.findings.streams import unpassed_ends  # fmt: skip
@@ -94,29 +94,6 @@ def test_a_channel_that_net_rpc_found_full(change: dict[str, Any], says: str, mo
     sentence = says.removeprefix(" with")
     start = f"Perhaps calls were dropped: that channel{sentence} has room for {many}, and net/rpc drops a call"
     assert [line.startswith(start) for line in found] == [True] * bool(says)
-
-
-@pytest.mark.parametrize(
-    "objects, uses, found",
-    [
-        ([(5, FOR_VALUE)], "put6", ["put6"]), ([(5, FOR_VALUE)], "closed6", ["closed6"]), ([(5, FOR_VALUE)], "took6", []), ([(5, FOR_VALUE)], "put5", []),
-        ([(5, FOR_VALUE)], "put8", []), ([(5, FOR_ROOM)], "took6", ["took6"]), ([(5, FOR_ROOM)], "closed6", []), ([(5, FOR_ROOM)], "put6", []),
-        ([(5, FOR_VALUE)], "put6 put7 closed6", ["closed6", "put7", "put6"]), ([(5, FOR_VALUE), (6, FOR_VALUE)], "put6", []), ([], "put6", []), ([(9, FOR_VALUE)], "put6", []),
-    ],
-)  # fmt: skip
-def test_what_was_done_with_channels_of_the_same_line(
-    objects: list[tuple[int, str]], uses: str, found: list[str]
-) -> None:
-    kinds = {"put": PUT, "took": TOOK, "closed": CLOSED}
-    of: dict[int, list[ObjectUse]] = {}
-    for end, word in enumerate(uses.split(), 1):
-        of.setdefault(int(word[-1]), []).append(use_of(int(word[-1]), kinds[word[:-1]], 1, end=end))
-    stacks = {1: Stack((line_of(4),), None), 2: Stack((line_of(4), line_of(9)), None), 3: Stack((line_of(5),), None)}
-    channels = {number: Made(stack=stack) for number, stack in ((5, 1), (6, 1), (7, 1), (8, 3))}
-    recording = cast(Any, Made(lines=Made(made=channels, stacks=stacks, uses=of)))
-    says = sibling_channels.given_at_siblings(recording, waiting(objects))
-    names = {kind: name for name, kind in kinds.items()}
-    assert [f"{names[word.what]}{word.object}" for word in says] == found
 
 
 SLOTS = """\

@@ -8,11 +8,10 @@ from typing import Any, cast
 import pytest
 
 from netrev.findings.causes import failed_calls
-from netrev.findings.evidence import loop_variables
 from netrev.findings.evidence.need import Need
 from netrev.findings.http import cancellations
 from netrev.findings.locks import skipped_done
-from netrev.findings.pools import leaking_paths, uncancelled_contexts
+from netrev.findings.pools import later_closes, leaking_paths
 from netrev.recording.call import Outcome
 from netrev.recording.goroutines import CLOSED, DONE, PUT, TOOK, At, ObjectUse, Park
 from netrev.recording.waits import Name
@@ -20,69 +19,6 @@ from netrev.recording.where import OF_A_LIBRARY, OF_GO, OF_THE_PROGRAM, SourceCa
 from tests.failed_calls.test_cause_boundaries import line_of
 
 Patch = pytest.MonkeyPatch
-
-STARTS = """\
-func run() {
-	v := v
-	for i, v := range xs {
-		log(v)
-		go func() {
-			work()
-			use(v)
-		}()
-		log(i)
-	}
-	use(v)
-}"""
-
-
-@pytest.mark.parametrize(
-    "old, new, start_line, found",
-    [
-        ("", "", 5, ["3 v"]), ("", "", 6, ["3 v"]), ("", "", 7, ["3 v"]), ("", "", 8, []), ("", "", 4, []), ("", "", 11, []),
-        ("use(v)", "use(i, v)", 5, ["3 i", "3 v"]), ("use(v)", "_ = v", 5, ["3 v"]), ("use(v)", "use(vs, s.v)", 5, []), ("use(v)", "// v", 5, []),
-        ("i, v := range", "_, v := range", 5, ["3 v"]), ("i, v := range xs", "v := 0; v < 3; v++", 5, ["3 v"]), ("i, v := range xs", "v < 3", 5, []),
-        ("\t\tlog(v)", "\t\tv := v", 5, []), ("\t\tlog(v)", "\t\tvv := v", 5, ["3 v"]), ("\t\t\twork()", "\t\t\tv := v", 5, []), ("\t\tlog(i)", "\t\tv := v", 5, ["3 v"]),
-        ("for i, v := range xs", "if v := x; v", 5, []), ("go func()", "go func(v int)", 5, []), ("go func()", "each(func()", 6, []), ("func run", "func", 5, []),
-        ("go func() {\n\t\t\twork()\n\t\t\tuse(v)\n\t\t}()", "go func() { use(v) }()", 5, ["3 v"]),
-    ],
-)  # fmt: skip
-@pytest.mark.parametrize("function", ["main.run", "main.run.func1"])
-def test_the_variables_of_a_loop_that_its_goroutines_use(
-    old: str, new: str, start_line: int, found: list[str], function: str
-) -> None:
-    lines = tuple((STARTS.replace(old, new, 1) if old else STARTS).split("\n"))
-    assert [f"{head} {name}" for head, name in loop_variables.shared_at(lines, line_of(start_line, function))] == found
-
-
-@pytest.mark.parametrize(
-    "module, source_text, file, of, says",
-    [
-        ("module a\n\ngo 1.21\n", "a.go", "a.go", OF_THE_PROGRAM, 1), ("module a\n\ngo 1.22\n", "a.go", "a.go", OF_THE_PROGRAM, 0), ("go 1.9", "a.go", "a.go", OF_THE_PROGRAM, 1),
-        ("module a", "a.go", "a.go", OF_THE_PROGRAM, 0), ("", "a.go", "a.go", OF_THE_PROGRAM, 0), ("go 1.21", "b.go", "a.go", OF_THE_PROGRAM, 0),
-        ("go 1.21", "a.go", "a.go", OF_A_LIBRARY, 0), ("go 1.21", "none.go", "none.go", OF_THE_PROGRAM, 0), ("// go 1.21", "a.go", "a.go", OF_THE_PROGRAM, 0),
-    ],
-)  # fmt: skip
-def test_loops_share_variables_before_a_language_version(
-    tmp_path: Path, module: str, source_text: str, file: str, of: str, says: int
-) -> None:
-    folder = tmp_path / "one" / "two"
-    folder.mkdir(parents=True)
-    (tmp_path / "go.mod").write_text(module or "module none", encoding="utf-8")
-    for name in ("a.go", "b.go"):
-        (folder / name).write_text(STARTS, encoding="utf-8")
-    calls = [SourceCall("main.run", str(folder / source_text), line, of) for line in (6, 5)]
-    known = {goid: Made(made=call) for goid, call in enumerate([*calls, calls[0], None], 1)}
-    recording = cast(Any, Made(lines=Made(goroutines=known, written=float("inf"))))
-    found = loop_variables.shared_variables(recording, str(folder / file))
-    assert [sentence.partition(" use the last v of the loop at ")[0][-6:] for sentence in found] == [
-        "a.go:5",
-        "a.go:6",
-    ] * says
-    assert all(
-        sentence.partition(" of the loop at ")[2].startswith(f"{folder}/a.go:3: the module's ") for sentence in found
-    )
-
 
 CONTEXT = """\
 package main
@@ -121,7 +57,7 @@ def test_the_lines_that_cancel_the_context_of_a_function(
     old: str, new: str, at: int, context: str, expected: list[str], function: str
 ) -> None:
     lines = tuple((CONTEXT.replace(old, new, 1) if old else CONTEXT).split("\n"))
-    found = uncancelled_contexts.cancels_of(lines, line_of(at, function), context)
+    found = later_closes.cancels_of(lines, line_of(at, function), context)
     cancels = [(cancel.number, "deferred" if cancel.is_deferred else "later", cancel.within) for cancel in found]
     assert [f"{number} {how} {within.start}-{within.stop - 1}" for number, how, within in cancels] == expected
 

@@ -11,7 +11,7 @@ import pytest
 from netrev.findings.causes import repeated_failures  # fmt: skip
 from netrev.findings.handovers import dropped_requests, ended_givers  # fmt: skip
 from netrev.findings.locks import sync_conditions  # fmt: skip
-from netrev.findings.pools import leaking_paths, senders, uncancelled_contexts  # fmt: skip
+from netrev.findings.pools import later_closes, leaking_paths, senders  # fmt: skip
 from netrev.findings.source import package as package_source  # fmt: skip
 from netrev.recording.goroutines import GoGoroutine
 from netrev.recording.waits import Name, ObjectWait
@@ -327,7 +327,7 @@ func oneLine() {
 )  # fmt: skip
 def test_the_lines_that_cancel_a_context(line: int, context: str, expected: list[tuple[int, bool]]) -> None:
     lines = tuple(CONTEXT.split("\n"))
-    found = uncancelled_contexts.cancels_of(lines, SourceCall("main.f", "a.go", line, OF_THE_PROGRAM), context)
+    found = later_closes.cancels_of(lines, SourceCall("main.f", "a.go", line, OF_THE_PROGRAM), context)
     assert [(cancel.number, cancel.is_deferred) for cancel in found] == expected
 
 

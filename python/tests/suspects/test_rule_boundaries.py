@@ -9,11 +9,9 @@ from typing import Any, cast
 import pytest
 
 from netrev.connection.shapes import is_shaped
-from netrev.explore import failures as failing
 from netrev.explore import script as scripts
 from netrev.explore.control_flow import Operation
 from netrev.explore.environment import Environment
-from netrev.explore.failures import _of_socket
 from netrev.explore.goroutine_scripts import GoroutineScript
 from netrev.explore.schedules import Delay, _late_delays
 from netrev.findings.suspects.kept_references import KeptReference
@@ -159,18 +157,6 @@ def script(*goroutines: list[Operation], length: int = 20) -> Any:
     return Made(goroutines=list(goroutines), length=length)
 
 
-def test_operations_of_a_sort_by_socket_in_the_order_of_their_first_steps() -> None:
-    first, second, other = (Operation(OperationType.READ, 1, steps=steps) for steps in ([5, 9], [3, 12], [4]))
-    other.socket = 2
-    found = _of_socket(
-        script(
-            [first, Operation(OperationType.READ, 1), Operation(OperationType.WRITE, 1, steps=[1])], [second, other]
-        ),
-        OperationType.READ,
-    )
-    assert found == {1: [(1, second), (0, first)], 2: [(1, other)]}
-
-
 SET_BOTH, MOVED, RESET = (3, "rw", 50), (6, "r", 900), 9
 
 
@@ -252,20 +238,6 @@ def test_what_a_lock_that_failed_would_have_led_to(sizes: dict[int, int], is_ope
     assert [operation.sort.name for operation in supposed] == sorts
     assert [operation.use for operation in supposed] == [1] * (len(sorts) - 1) + [-1]
     assert {(operation.socket, operation.side) for operation in supposed} == {(3, "r")}
-
-
-@pytest.mark.parametrize(
-    "steps, answers, is_well",
-    [
-        (([1], [2], [3]), "yes yes yes", True), (([], [2], [3]), "yes yes yes", False), (([1], [2], []), "yes yes yes", False), (([1], [], [3]), "yes yes yes", True),
-        (([1],), "yes", False), (([1], [2], [3]), "yes eof yes", False), (([1], [2], [3]), "no yes yes", False),
-    ],
-)  # fmt: skip
-def test_a_call_that_went_well(steps: tuple[list[int], ...], answers: str, is_well: bool) -> None:
-    kinds = ("rwlock", "sysread", "rwunlock")
-    call = [Operation(OperationType.LOCK, 3, steps=some, kinds=[kind] * len(some)) for kind, some in zip(kinds, steps)]
-    script = cast(Any, Made(answers=[(word,) for word in answers.split()]))
-    assert failing.went_well(script, call) is is_well
 
 
 # smaller recordings

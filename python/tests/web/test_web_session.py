@@ -2,6 +2,7 @@
 when netrev ends and when it is back."""
 
 import json
+import signal
 import sys
 from collections.abc import Callable
 from concurrent.futures import Future
@@ -219,15 +220,24 @@ def test_netrev_is_gone(web: Page) -> None:
     assert web.completions("print gor ") == []
 
 
-def test_a_walk_is_stopped_and_the_session_goes_on(monkeypatch: pytest.MonkeyPatch, web: Page) -> None:
-    def stopped(_: int | None) -> None:
-        web.interrupts.press()  # Ctrl-C in nrdb's terminal
-        web.interrupts.check()
+@pytest.mark.parametrize("is_stopped, lines", [(False, [["at 1"]]), (True, [])])
+def test_ctrl_c_during_a_line_ends_the_page(
+    is_stopped: bool, lines: list[list[str]], monkeypatch: pytest.MonkeyPatch, web: Page
+) -> None:
+    ask = web.netrev.ask
 
-    with monkeypatch.context() as patch:
-        patch.setattr(CHANGES, "_wait", stopped)
-        assert web.says("history lock 0 all") == ["| interrupted; the session goes on"]
-    assert web.says("stepi 2")[0] == "at 2"
+    def pressed(line: str) -> Any:
+        if line == "stepi":
+            signal.raise_signal(signal.SIGINT)  # Ctrl-C in nrdb's terminal
+            if is_stopped:
+                web.interrupts.check()
+        return ask(line)
+
+    monkeypatch.setattr(web.netrev, "ask", pressed)
+    web.running.post("browser 1", "stepi")
+    with pytest.raises(KeyboardInterrupt):
+        web.running.turn()
+    assert [event["lines"] for event in web.streams.take() if event["event"] == "said"][:1] == lines
 
 
 def test_it_is_said_and_lines_arent_answered(web: Page) -> None:

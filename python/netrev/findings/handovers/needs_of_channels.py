@@ -8,7 +8,6 @@ from typing import Any, TypeVar
 from netrev.findings.evidence.call_words import place_in
 from netrev.findings.evidence.ended_goroutines import loop_words
 from netrev.findings.evidence.ledger import GAVE_BEFORE, GIVES, GIVES_WORDS, Ledger, Operation
-from netrev.findings.evidence.loop_variables import shared_variables
 from netrev.findings.evidence.need import Certainty, Need
 from netrev.findings.evidence.siblings import Kind, ended_words, kinds_of
 from netrev.findings.evidence.waiters import Waiter
@@ -19,9 +18,7 @@ from netrev.findings.pools.leaking_paths import gives_on_most_paths, paths_with_
 from netrev.findings.pools.made_channels import is_filled_by_maker
 from netrev.findings.pools.new_channels import channel_since
 from netrev.findings.pools.senders import later_giver
-from netrev.findings.pools.sibling_channels import giver_at_siblings
 from netrev.findings.pools.slots import of_slots
-from netrev.findings.pools.uncancelled_contexts import uncancelled
 from netrev.findings.pools.unclosed_channels import unclosed
 from netrev.recording.goroutines import FOR_ROOM, FOR_VALUE, PUT, TOOK, At
 from netrev.recording.recording import Recording
@@ -29,7 +26,6 @@ from netrev.recording.waits import Name, ObjectWait, Waits, name_of_goid
 from netrev.recording.where import OF_THE_PROGRAM, Stack
 from netrev.run.index import run_of
 
-from .dispatchers import perhaps_dropped
 from .dropped_notices import dropped_notices
 from .ended_givers import ended_giver
 from .givers import has_left, have_ended, is_in, only_itself, untouched
@@ -69,14 +65,12 @@ class NeedsOfChannels:
         return self._once(("balances", number), find)
 
     def besides(self, wait: ObjectWait) -> list[str]:
-        """Further sentences about a channel: values that were lost or kept, or loop variables that goroutines share."""
+        """Further sentences about a channel: values that were lost or kept."""
 
         def find() -> list[str]:
             is_pool = any(self._balances(at.object) for at in wait.objects if self.is_buffered(at))
             kept = [] if is_pool else paths_with_an_error(self._recording, wait)
-            own = wait.stack.own()
-            shared = shared_variables(self._recording, own[0].file) if own and self.is_new(wait) else []
-            return dropped_notices(self._recording, wait) or kept or shared
+            return dropped_notices(self._recording, wait) or kept
 
         return self._once((wait.stack.own(), wait.objects, "besides"), find)
 
@@ -180,12 +174,6 @@ class NeedsOfChannels:
             if candidate.name != wait.name and candidate.last >= since
         ]
         closing = self._closing(wait)
-        if (
-            not operations
-            and not (closing and closing.by)
-            and (by := giver_at_siblings(self._recording, wait, self._waiters))
-        ):
-            return by._replace(more=self.more_of(wait, by.by)) if by.by else by
         if closing and (closing.by or not operations):
             return closing
         if operation := next((candidate for candidate in operations if candidate.name in self._waiters), None):
@@ -194,7 +182,7 @@ class NeedsOfChannels:
             if not is_one:
                 return Need([], operation.name, f"perhaps for {{by}}: it {words}", Certainty.PERHAPS)
             is_over = has_left(self._waiters[operation.name].stack, operation.stack)
-            siblings, more = self._of_siblings(wait), self.more_of(wait, operation.name)
+            siblings, more = self._of_siblings(wait), self.more_of(wait)
             ended = self._ended_siblings(wait)
             begins, certainty = ("perhaps for {by}: it", Certainty.PERHAPS) if is_over else ("{by}", Certainty.LIKELY)
             return Need(
@@ -236,8 +224,6 @@ class NeedsOfChannels:
             return Need([itself])
         if left := self._once(("gone", wait.objects), lambda: self._gone(wait)):
             return Need(left)
-        if context := self._by_source("context", uncancelled, wait):
-            return context
         later = self._by_source("later", later_giver, wait)
         if later is None or not later.by:
             return (
@@ -266,10 +252,10 @@ class NeedsOfChannels:
         need = self._once(place, lambda: rule(self._recording, nobody, self._stacks.items()))
         return rule(self._recording, wait, self._stacks.items()) if need and need.by == wait.name else need
 
-    def more_of(self, wait: ObjectWait, by: Name) -> list[str]:
-        """Further sentences about a wait: a channel isn't closed, or an answer wasn't passed on."""
+    def more_of(self, wait: ObjectWait) -> list[str]:
+        """Further sentences about a wait: a channel isn't closed."""
         closing = self._closing(wait)
-        return [*(closing.more if closing else []), *perhaps_dropped(self._recording, wait, self._waiters[by])]
+        return closing.more if closing else []
 
     def _of_siblings(self, wait: ObjectWait) -> list[str]:
         """Sentences about goroutines that ended without doing what others from the same `go` statement did."""

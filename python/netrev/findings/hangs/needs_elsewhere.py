@@ -91,7 +91,7 @@ class NeedsElsewhere:
         if kind == A_SELECT and (later := self._closed_later(wait)):
             return later
         if by := self._ended_before(wait):
-            more = more or (self._channels.more_of(wait, by) if kind != A_CONDITION else [])
+            more = more or (self._channels.more_of(wait) if kind != A_CONDITION else [])
             beside = tuple(more) if kind == A_CONDITION else ()
             return Need([], by, "{by} ended its wait there before", Certainty.LIKELY, more=more, beside=beside)
         if kind == A_CONDITION:
@@ -102,11 +102,11 @@ class NeedsElsewhere:
             return Need(left)
         if self._channels.is_new(wait) and (by := self._ended_before(wait, elsewhere=True)):
             how = "perhaps {by} ends it, as it ended a wait at that line before"
-            return Need([], by, how, Certainty.PERHAPS, more=self._channels.more_of(wait, by))
+            return Need([], by, how, Certainty.PERHAPS, more=self._channels.more_of(wait))
         need = self._channels.of(wait)
         if need == Need([]) and (by := self._reader_for(wait)):
             how = "perhaps {by} reads the answer"
-            return Need([], by, how, Certainty.PERHAPS, more=self._channels.more_of(wait, by))
+            return Need([], by, how, Certainty.PERHAPS, more=self._channels.more_of(wait))
         return need
 
     def _reader_for(self, wait: ObjectWait) -> Name | None:

@@ -4,7 +4,6 @@ listener."""
 from collections import defaultdict
 
 from netrev.findings.evidence.call_words import capital
-from netrev.findings.evidence.loop_variables import shared_variables
 from netrev.recording.call import OPEN
 from netrev.recording.waits import Name, of_names
 from netrev.recording.where import SourceCall as LineCall
@@ -30,7 +29,6 @@ def idle_listeners(index: RunIndex, position: int) -> list[str]:
                     f"Nobody has called Accept at the listener{'s' if idle[1:] else ''}, {sockets}. "
                     f"{capital(of_names(names))}, started at {statement.place()}, "
                     f"all accept at the same one, socket {socket}.",
-                    *shared_variables(index.recording, statement.file),
                 ]
     return []
 

@@ -23,7 +23,7 @@ from tests.support.stubs import stub
 
 from .common.dap_client import Adapter as Editor
 from .common.dap_client import RefusalError
-from .common.support import EXAMPLES, nrdb
+from .common.support import EXAMPLES, NRDB, nrdb
 from .editors.test_dap_port import asked, framed
 
 FIRST = EXAMPLES / "first.jsonl"
@@ -173,3 +173,18 @@ def test_a_recording_larger_than_what_is_allowed_is_one_line(tmp_path: Path) -> 
         f"{large} is too large: nrdb keeps a recording in memory, and there isn't enough\n",
         "",
     )
+
+
+def test_a_file_that_cannot_be_written_is_a_line_and_the_earlier_file_stays(tmp_path: Path) -> None:
+    lines = {"timeline t.html": "t.html", "trace t.json": "t.json", "trace t.gz": "t.gz", "report t.md lock 0 *": "t-2.html", "save breakpoints t": "t"}  # fmt: skip
+    for name in ("t.html", "t.json", "t.gz", "t.md", "t"):
+        (tmp_path / name).write_text("earlier")
+    marks = [f"watch {cell} 0" for cell in ("lock", "rg", "wg", "rd", "wd", "info", "fdseq", "gor")] * 8
+    words = [word for line in (*marks, *lines) for word in ("-ex", line)]
+    limited: list[str | Path] = ["sh", "-c", 'ulimit -f 1; exec "$@"', "sh", NRDB, "--netrev", NETREV, "--batch", *words, EXAMPLES / "cancelled-read.jsonl"]  # fmt: skip
+    ended = subprocess.run(limited, cwd=tmp_path, capture_output=True, text=True, check=False)
+    assert (ended.returncode, ended.stderr) == (0, "")
+    assert [line for line in ended.stdout.splitlines() if "File too large" in line] == [f"| {name}: File too large" for name in lines.values()]  # fmt: skip
+    assert {path.read_text() for path in tmp_path.iterdir() if path.name not in ("t-2.jsonl",)} == {"earlier"}
+    status = subprocess.run([*limited[:7], "--timeline", "t.html", limited[-1]], cwd=tmp_path, capture_output=True).returncode  # fmt: skip
+    assert status == 3

@@ -10,21 +10,17 @@ from pathlib import Path
 import pytest
 
 from netrev.explore.sentences import UNLESS
-from netrev.findings.causes import causes_of
 from netrev.findings.suspects.ranking import suspects_of
-from netrev.recording.call import Outcome
 from netrev.recording.recording import Recording
 from netrev.reduce.writing import answered_by
 from tests.program.nrdb.common.support import EXAMPLES, nrdb
 from tests.program.nrdb.test_suspects import checked
 from tests.program.support.sharing import NETREV
-from tests.trials.go_caused import bug_line
 
 SOME = 4
 SCHEDULES = 100  # how many schedules of each race are tried
 TIMED = re.compile(r" in [\d.]+ s")
 GOOD = EXAMPLES / "cancelled-read.jsonl"
-CAUSED = EXAMPLES.parent / "python/tests/caused"
 
 
 @pytest.fixture(autouse=True)
@@ -46,21 +42,6 @@ def test_what_is_kept_is_a_run_that_ends_with_the_suspect() -> None:
     assert Recording.read("cancelled-read-other-1-short.jsonl").length < Recording.read(files[0][0]).length
     assert output.count(UNLESS) == output.count("short: ")
     assert len(re.findall(r"^\| \d\. ", output, re.MULTILINE)) == output.count(UNLESS)
-
-
-def test_a_call_that_fails_is_kept_and_reduced_with_what_it_fails_by() -> None:
-    output = nrdb("--batch", "-ex", "explore failures 100", CAUSED / "pool-good.jsonl")
-    assert "| 1. a call that fails, in pool-good-other-1.jsonl: goroutine 0's Read on socket 2" in output
-    names = "pool-good-other-1.jsonl", "pool-good-other-1-short.jsonl"
-    whole, short = map(Recording.read, names)
-    for name, recording in zip(names, (whole, short)):
-        assert checked(Path(name)) == f"ok {recording.length} steps\n"
-        (cause,) = causes_of(recording, recording.length)
-        assert (cause.call.name, cause.call.outcome) == ("Read", Outcome.TIMED_OUT)
-        assert "; 1 Read went well under it, and nobody has moved it since." in cause.says[1]
-        assert f"set at {bug_line('pool')} " in cause.says[1]
-    assert short.length < whole.length // 4
-    assert f"short:  pool-good-other-1-short.jsonl: {short.length} of {whole.length} steps, accepted" in output
 
 
 def test_nothing_is_written_where_nothing_is_found() -> None:
@@ -108,14 +89,19 @@ def test_a_run_that_is_not_of_gos_calls_is_refused(folder: Path) -> None:
 
 
 def test_other_words_and_the_recording_itself_are_refused() -> None:
-    wrong = ("explore many", "explore 0", "explore 3 4", "explore failures all")
+    wrong = ("explore many", "explore 0", "explore 3 4", "explore failures")
     output = nrdb("--batch", *(word for line in wrong for word in ("-ex", line)), GOOD)
-    assert output.count("| explore [failures] [N]: N is the number of schedules, from 1 to 1000000") == 4
+    assert output.count("| explore [N]: N is the number of schedules, from 1 to 1000000") == 4
     shutil.copy(GOOD, "x-other-1.jsonl")
     os.symlink("x-other-1.jsonl", "x.jsonl")
-    output = nrdb("--explore", "x.jsonl", status=3)
-    assert "x-other-1.jsonl is the recording itself, or its NAME.where: choose another name" in output
-    assert Path("x.jsonl").read_bytes() == GOOD.read_bytes()
+    Path("x-other-2-short.jsonl").symlink_to("diary")
+    Path("diary").write_text("mine")
+    for _ in range(2):  # (the second time replaces what the first wrote)
+        output = nrdb("--explore", "x.jsonl", status=SOME)
+        assert re.findall(r"^\| \d\. .*?, in (\S+): ", output, re.MULTILINE) == [f"x-other-{n}-2.jsonl" for n in (1, 2)]
+    assert (Path("x.jsonl").read_bytes(), Path("diary").read_text()) == (GOOD.read_bytes(), "mine")
+    new = {f"x-other-{n}-2{ending}.jsonl" for n in (1, 2) for ending in ("", "-short")}
+    assert set(os.listdir()) == {"x.jsonl", "x-other-1.jsonl", "x-other-2-short.jsonl", "diary"} | new
 
 
 def upgraded_with_lines(path: Path) -> tuple[Path, str]:

@@ -147,13 +147,34 @@ def test_a_long_hang_is_reported_with_a_part_of_its_values(folder: Path) -> None
     assert page["last"] - page["first"] < MOST_IN_A_PAGE
 
 
-@pytest.mark.parametrize("name", ["bug.html", "bug.md", "bug.jsonl"])
-def test_a_report_never_overwrites_its_recording(folder: Path, name: str) -> None:
-    path, data = folder / name, (EXAMPLES / "real/hijacked.jsonl").read_bytes()
+def test_a_report_never_overwrites_its_recording(folder: Path) -> None:
+    path, data = folder / "bug.md", (EXAMPLES / "real/hijacked.jsonl").read_bytes()
     path.write_bytes(data)
-    output = nrdb("--batch", "-ex", f"report {folder / 'bug.md'}", path)
+    output = nrdb("--batch", "-ex", f"report {path}", path)
     assert f"{path} is the recording itself" in output
-    assert (path.read_bytes(), [file.name for file in folder.iterdir()]) == (data, [name])
+    assert (path.read_bytes(), [file.name for file in folder.iterdir()]) == (data, ["bug.md"])
+
+
+@pytest.mark.parametrize("name", ["bug.html", "bug.jsonl", "bug.where"])
+def test_a_report_replaces_no_file_whose_name_nobody_typed(folder: Path, name: str) -> None:
+    example = EXAMPLES / "real/hijacked.jsonl"
+    (folder / name).write_bytes(example.read_bytes())
+    path = folder / name if name != "bug.where" else example
+    written = {"bug.md", "bug-2.html", "bug-2.jsonl"} | ({"bug-2.where"} if path == example else set())
+    for _ in range(2):  # (the second report replaces the first one's files)
+        output = nrdb("--batch", "-ex", f"report {folder / 'bug.md'}", path)
+        assert f"bug.md with bug-2.html, and {folder}/bug-2.jsonl: " in output
+        assert {file.name for file in folder.iterdir()} == {name} | written
+    assert (folder / name).read_bytes() == example.read_bytes()
+    assert "[bug-2.html](bug-2.html)" in (folder / "bug.md").read_text()
+
+
+def test_the_page_of_a_hang_replaces_no_other_page(folder: Path) -> None:
+    (folder / "hang.html").write_text("mine")
+    for name in ("both-bad", "queued-bad"):
+        nrdb("--batch", "-ex", f"report {folder / 'hang.md'}", ROOT / f"python/tests/caused/{name}.jsonl")
+    assert (folder / "hang.html").read_text() == "mine"
+    assert {file.name for file in folder.iterdir()} == {"hang.md", "hang.html", "hang-2.html", "hang-3.html"}
 
 
 def test_what_is_not_there_has_no_value(folder: Path) -> None:

@@ -200,6 +200,16 @@ def test_lines_are_kept_for_the_next_session(home):
         assert "clock = 0\n" in person.until(PROMPT)
 
 
+@pytest.mark.parametrize("number", [signal.SIGTERM, signal.SIGHUP, signal.SIGQUIT])
+def test_a_signal_leaves_the_terminal_as_it_was(home, number):
+    with Typist(EXAMPLES / "first.jsonl", home) as typist:
+        assert not termios.tcgetattr(typist.terminal)[3] & termios.ECHO
+        os.kill(typist.process, number)
+        assert os.WTERMSIG(os.waitpid(typist.process, 0)[1]) == number
+        typist.process = 0
+        assert termios.tcgetattr(typist.terminal)[3] & termios.ECHO
+
+
 def test_ctrl_c_at_the_prompt_drops_the_line(home):
     with typist(home) as person:
         person.type("stepi 3")
