@@ -99,9 +99,9 @@ def convert_log(options: argparse.Namespace) -> int:
     status: int = ExitStatus.DONE
     for index, log in enumerate(logs, 1):
         KNOWN.clear()
-        saying = ReportPrinter([], stream=sys.stdout)
+        saying, process = ReportPrinter([], stream=sys.stdout), options.pid if index > written else None
         try:
-            outcome = convert(log, numbered(base, index), go, wish_of(options), KNOWN, saying.hear, index > written)
+            outcome = convert(log, numbered(base, index), go, wish_of(options), KNOWN, saying.hear, process)
         except OSError as fault:
             complain(unwritten(numbered(base, index), fault))
             status = ExitStatus.TROUBLE
@@ -155,6 +155,10 @@ def main(arguments: list[str] | None = None) -> int:
     except RecorderError as trouble:
         complain(str(trouble))
         return ExitStatus.TROUBLE
+    except MemoryError:
+        KNOWN.clear()
+        complain(messages.OUT_OF_MEMORY)
+        return ExitStatus.REFUSED
     except KeyboardInterrupt:
         complain(messages.INTERRUPTED)
         return ExitStatus.INTERRUPTED

@@ -22,11 +22,12 @@ from netrev.text.plain import plain
 
 from .go_command.outputs import LONGEST_ENDING, numbered
 from .go_command.running import logs_in, shell_status
+from .go_command.terminal import complain, say
 from .go_command.toolchain import Go
-from .log.logfile import NotALogError, read_log
+from .log.logfile import NotALogError
 from .log.tests_in_log import Ran, Tests, of_log
-from .recordings import ReportPrinter, complain, say, unwritten
-from .steps.conversion import ReadLog, RecordingOptions, converted
+from .recordings import ReportPrinter, unwritten
+from .steps.conversion import ReadLog, RecordingOptions, converted, read_whole
 from .steps.forms import TestResult
 from .steps.report import Conversion, Hear, unheard
 
@@ -140,7 +141,7 @@ class Recordings:
 
     def read(self, log: pathlib.Path, tests: Tests) -> ReadLog | None:
         try:
-            return ReadLog(log, read_log(log), tests)
+            return read_whole(log, tests=tests)
         except NotALogError as fault:
             self.all_recorded = False
             complain(f"{log}: {fault}")

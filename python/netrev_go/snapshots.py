@@ -4,6 +4,7 @@ of the log say which goroutines wait on sockets, and since when, so frequent che
 from __future__ import annotations
 
 import argparse
+import os
 import pathlib
 import time
 from array import array
@@ -14,17 +15,19 @@ from typing import BinaryIO, NamedTuple
 from netrev.messages import recorder as messages
 from netrev.text.plain import plain
 
-from .go_command.line_reader import line_reader
 from .go_command.outputs import base_name, look, numbered
 from .go_command.running import log_of_process, writes
+from .go_command.terminal import complain, say
 from .go_command.status import ExitStatus
 from .go_command.toolchain import Go, RecorderError
+from .go_command.trusted_files import MOST_OF_LOG, UntrustedFileError, opened, owners_of
 from .log.logfile import HEADER_BYTES, ROW_WORDS, WAITER_WORDS, WORD, Header, NotALogError, stack_at
 from .log.notes import PARKED
 from .log.points import Log
-from .log.source_lines import Calls, SourceRoots, lines_of
-from .recordings import ReportPrinter, complain, say
-from .steps.conversion import RecordingOptions, convert, program_of
+from .log.source_lines import Calls
+from .log.tests_in_log import Tests
+from .recordings import ReportPrinter
+from .steps.conversion import ReadLog, RecordingOptions, calls_of, convert
 from .steps.report import line_of
 from .steps.where import own_line
 
@@ -88,9 +91,8 @@ class Watch:
             found = None
             if stack and self._go and (addresses := stack_at(self._file, stack)):
                 log = Log([], {stack: addresses}, text=self._header.text, program=self._header.program)
-                program = program_of(self._log, log.program)
-                roots = SourceRoots(self._go.sources(), pathlib.Path.cwd())
-                found = lines_of(log, {stack}, program, line_reader(self._go), roots).get(stack)
+                owner = os.fstat(self._file.fileno()).st_uid
+                found = calls_of(ReadLog(self._log, log, Tests(), owner), {stack}, self._go).get(stack)
             self._calls[stack] = found
         return self._calls[stack]
 
@@ -129,7 +131,9 @@ def snapshot(
     base = base_name(options.o, "snapshot")
     look(base)
     saying = ReportPrinter([])
-    outcome = convert(log_of_process(options.pid), numbered(base, 1), go, recording_options, known, saying.hear, True)
+    outcome = convert(
+        log_of_process(options.pid), numbered(base, 1), go, recording_options, known, saying.hear, options.pid
+    )
     saying.rest(outcome.lines)
     return ExitStatus.DONE if outcome.taken else ExitStatus.REFUSED
 
@@ -140,7 +144,7 @@ def watch(options: argparse.Namespace, go: Go | None, recording_options: Recordi
     look(base_name(options.o, "snapshot"))
     pause = min(max(options.stuck / LOOKS, OFTENEST), SELDOMEST)
     try:
-        with log.open("rb", buffering=0) as file:
+        with opened(log, owners_of(options.pid), MOST_OF_LOG, 0) as file:
             header = Header(file.read(HEADER_BYTES))
             if not header.rows:
                 raise RecorderError(messages.NO_TABLE.format(log=plain(str(log))))
@@ -152,7 +156,7 @@ def watch(options: argparse.Namespace, go: Go | None, recording_options: Recordi
                     say([plain(watching.words(found))])
                     return snapshot(options, go, replace(recording_options, first=found.word, failed=True), known)
                 time.sleep(pause)
-    except (OSError, NotALogError) as fault:
+    except (OSError, NotALogError, UntrustedFileError) as fault:
         raise RecorderError(messages.LOG_UNREADABLE.format(log=plain(str(log)), why=fault)) from None
     complain(messages.NO_LONG_WAIT.format(process=options.pid))
     return ExitStatus.DONE

@@ -3,6 +3,7 @@
 import errno
 import os
 import secrets
+import stat
 from collections.abc import Iterator
 from contextlib import contextmanager, suppress
 from pathlib import Path
@@ -19,14 +20,17 @@ def beside(path: Path) -> Path:
 
 
 @contextmanager
-def whole(path: Path, mode: str = "w") -> Iterator[IO[Any]]:
+def whole(path: Path, mode: str = "w", permissions: int = 0o666) -> Iterator[IO[Any]]:
     """A file to write to, which replaces the old file at the end; raises an OSError that names the file if it can't be
-    written. A path that isn't a regular file, such as a pipe or /dev/stdout, is written to directly. A link is followed
-    unless it belongs to another user."""
+    written. It keeps the permissions of this user's file, and has otherwise these permissions, as far as the umask
+    allows. A path that isn't a regular file, such as a pipe or /dev/stdout, is written to directly. Links and pipes of
+    another user aren't used."""
     try:
         check_name(path)
         check_links(path)
         if path.exists() and (path.parent in STREAMS or not path.is_file()):
+            if path.parent not in STREAMS and path.stat().st_uid not in (os.geteuid(), 0):
+                raise OSError(errno.EACCES, "another user's, which isn't written to")
             with open_for(path, mode) as direct:
                 yield direct
             return
@@ -35,7 +39,9 @@ def whole(path: Path, mode: str = "w") -> Iterator[IO[Any]]:
             raise PermissionError(errno.EACCES, os.strerror(errno.EACCES))
         part = beside(place)
         try:
-            with open_for(part, mode.replace("w", "x")) as file:
+            with open_for(part, mode.replace("w", "x"), permissions) as file:
+                if (own := permissions_of(place)) is not None:
+                    os.fchmod(file.fileno(), own)
                 yield file
             os.replace(part, place)
         except BaseException:
@@ -68,21 +74,37 @@ def check_links(path: Path) -> None:
     raise OSError(errno.ELOOP, os.strerror(errno.ELOOP), str(path))
 
 
-def open_for(path: Path, mode: str) -> IO[Any]:
+def permissions_of(path: Path) -> int | None:
+    """The permissions of this user's file; None if it is missing, or another user's."""
+    with suppress(OSError):
+        status = path.stat()
+        return stat.S_IMODE(status.st_mode) if status.st_uid == os.geteuid() else None
+    return None
+
+
+def open_for(path: Path, mode: str, permissions: int = 0o666) -> IO[Any]:
     """Opens a file for text in UTF-8, or for bytes."""
-    return open(path, mode, encoding=None if "b" in mode else "utf-8")
+
+    def opener(name: str, flags: int) -> int:
+        return os.open(name, flags, permissions)
+
+    return open(path, mode, encoding=None if "b" in mode else "utf-8", opener=opener)
 
 
-def forget_where(path: Path) -> None:
-    """Removes NAME.where if it belongs to an earlier recording of that name; any other file stays."""
+def forget_where(path: Path) -> int | None:
+    """Removes NAME.where if it belongs to an earlier recording of that name, and returns its permissions if it is this
+    user's; any other file stays."""
     if path.is_file():
-        with open(path, "rb") as file:
+        with open(os.open(path, os.O_RDONLY | os.O_NONBLOCK), "rb") as file:
             is_ours = file.read(len(OF_LINES)) == OF_LINES
         if is_ours:
+            permissions = permissions_of(path)
             path.unlink()
+            return permissions
+    return None
 
 
-def written_whole(path: Path, data: bytes) -> None:
+def written_whole(path: Path, data: bytes, permissions: int = 0o666) -> None:
     """Writes these bytes; raises an OSError that names the file if that fails."""
-    with whole(path, "wb") as file:
+    with whole(path, "wb", permissions) as file:
         file.write(data)

@@ -19,6 +19,7 @@ from netrev.messages import recorder as messages
 from netrev.system.command_lines import command
 
 from .toolchain import RecorderError
+from .trusted_files import MOST_OF_LOG, UntrustedFileError, opened, owners_of
 
 MOST_POINTS = 2**20
 POINT_BYTES, STACK_BYTES, SPARE = 64, 4 * 2**20, 64 * 2**20
@@ -227,7 +228,7 @@ def log_of_process(process: int) -> pathlib.Path:
     until = time.monotonic() + STARTING
     while True:
         log = mapped_log(process)
-        if log and has_begun(log):
+        if log and has_begun(log, process):
             return log
         if time.monotonic() > until:
             break
@@ -248,10 +249,10 @@ def mapped_log(process: int) -> pathlib.Path | None:
     return None
 
 
-def has_begun(log: pathlib.Path) -> bool:
+def has_begun(log: pathlib.Path, process: int) -> bool:
     """Whether a log has its header. A log that can't be read counts as begun, and its reader reports the reason."""
     try:
-        with log.open("rb") as file:
+        with opened(log, owners_of(process), MOST_OF_LOG) as file:
             return any(file.read(8))
-    except OSError:
+    except (OSError, UntrustedFileError):
         return True

@@ -195,7 +195,7 @@ def run_of(folder: Path, runner: Runner, monkeypatch: Patch) -> go_test.GoRun:
     fakes: dict[str, Callable[..., object]] = {
         "claim": lambda item: item, "logs_folder": lambda points: folder, "limits_of": lambda options: None, "replace": lambda limits, **more: limits,
         "GoRunner": lambda *words: runner, "still_written": lambda item: [], "leave": lambda *words: None, "report_unrecorded": lambda item: False,
-        "report_no_log": lambda item, failed: False, "RecordingMaker": lambda *words: Made(so_far=lambda: (folder / "new/here").touch()),
+        "report_no_log": lambda item: False, "RecordingMaker": lambda *words: Made(so_far=lambda: (folder / "new/here").touch()),
     }  # fmt: skip
     for name, fake in fakes.items():
         monkeypatch.setattr(go_test, name, fake)
@@ -267,7 +267,8 @@ def test_only_the_log_of_a_process_is_still_written(
 def test_how_far_a_program_s_code_is_moved(tmp_path: Path, size: int, moved: int | None) -> None:
     program = tmp_path / "program"
     program.write_bytes(elf(size, 0x400))
-    assert source_lines.shift(program, 0x1000) == moved
+    with program.open("rb") as file:
+        assert source_lines.shift(file, 0x1000) == moved
 
 
 def test_a_folder_without_room_for_recordings_is_refused() -> None:

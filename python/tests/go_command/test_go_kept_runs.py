@@ -85,14 +85,15 @@ class Run:
         """The result of converting the logs that were kept, with the command that was printed for that."""
         kept, logs = KEPT.search(output), AGAIN.search(output)
         assert kept and logs, output
-        self.cleanups.callback(shutil.rmtree, kept[1])
+        self.cleanups.callback(shutil.rmtree, kept[1], True)
         returned, output = self.called("-o", "again", "convert", logs[1])
         assert returned == 0, output
         return (self.folder / "again.jsonl").read_text()
 
 
 @pytest.fixture
-def run(folder: Path, monkeypatch: pytest.MonkeyPatch, cleanups: ExitStack) -> Run:
+def run(folder: Path, tmp_path: Path, monkeypatch: pytest.MonkeyPatch, cleanups: ExitStack) -> Run:
+    monkeypatch.setenv("NETREV_LOGS", str(tmp_path))
     return Run(folder, monkeypatch, cleanups)
 
 
@@ -160,24 +161,23 @@ def test_a_disk_that_is_full_leaves_what_stood_there(monkeypatch: pytest.MonkeyP
     assert [name for name in os.listdir() if name.startswith(".netrev")] == []
 
 
-def test_whatever_fails_the_logs_stay(monkeypatch: pytest.MonkeyPatch, run: Run) -> None:
-    logs = run.folder / "logs"
-
-    def folder(_: int) -> Path:
-        logs.mkdir()
-        return logs
-
+@pytest.mark.parametrize(
+    "error, status, says", [(MemoryError, 1, "memory ran out"), (KeyboardInterrupt, 130, "interrupted")]
+)
+def test_whatever_fails_the_logs_stay_and_are_named_until_they_are_removed(
+    error: type[BaseException], status: int, says: str, monkeypatch: pytest.MonkeyPatch, run: Run
+) -> None:
     with monkeypatch.context() as patch:
-        patch.setattr(cli, "logs_folder", folder)
-        patch.setattr(recordings, "convert", raising(MemoryError))
-        with pytest.raises(MemoryError):
-            run.called("run", "main.go")
-        assert [log.read_bytes() for log in logs_in(logs)] == [run.log.read_bytes()]
-        shutil.rmtree(logs)
-        patch.setattr(recordings, "convert", raising(KeyboardInterrupt))
+        patch.setattr(recordings, "convert", raising(error))
         returned, output = run.called("run", "main.go")
-    assert returned == 130, output
+    assert (returned, f"netrev-go: {says}\n" in output) == (status, True), output
     assert run.again(output) == WHOLE
+    for command in ("recover", "convert"):
+        found = re.findall(r"convert (\S+)` makes recordings of them, `(rm -r \S+)` deletes", run.called(command)[1])
+        assert [logs for logs, _ in found] == AGAIN.findall(output)
+        removes = found[0][1]
+    subprocess.run(removes, shell=True, check=True)
+    assert "kept" not in run.called("recover")[1] and os.listdir(os.environ["NETREV_LOGS"]) == []
 
 
 def test_a_log_of_a_recording_that_netrev_refuses_stays(run: Run) -> None:
@@ -222,9 +222,9 @@ def test_one_log_that_cannot_be_converted_takes_nothing_from_the_others(run: Run
     assert returned == ExitStatus.TROUBLE, output
     assert "netrev-go: x.jsonl: Is a directory" in output
     assert (run.folder / "x-2.jsonl").read_text() == WHOLE
-    assert output.count(": not a regular file") == 2, output
+    assert "/dev/zero: can't be read: it is a device" in output and output.count("it is a folder") == 1, output
     for word in ("", "/", "."):
-        assert ": not a regular file" in run.called("convert", word)[1]
+        assert "it is a folder" in run.called("convert", word)[1]
 
 
 def test_a_reader_that_has_gone_stops_nothing(run: Run) -> None:
@@ -245,8 +245,8 @@ def failing(write: Callable[[Any, str], int]) -> Any:
     """A file in which every write after the first fails."""
 
     @contextlib.contextmanager
-    def opened(path: Path, mode: str = "w") -> Any:
-        with whole(path, mode) as file:
+    def opened(path: Path, mode: str = "w", permissions: int = 0o666) -> Any:
+        with whole(path, mode, permissions) as file:
             file.write("a part")
             yield SimpleNamespace(write=lambda text: write(file, text), flush=file.flush, fileno=file.fileno)
 

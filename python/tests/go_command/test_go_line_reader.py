@@ -15,7 +15,7 @@ from tests.logs.test_go_logs import REAL
 
 BUILDS = """echo "$@" >> {folder}/called
 [ "$1" = build ] || exit 1
-printf '#!/bin/sh\\necho "$@" >> {folder}/read\\n' > "$3"
+printf '#!/bin/sh\\ncat "$@" >> {folder}/read\\n' > "$3"
 chmod 700 "$3"
 """
 
@@ -73,7 +73,7 @@ def test_before_the_first_recording_it_is_built_and_lines_are_read_by_it(
     log.write_bytes(from_text((REAL / "past.log").read_text())[0])
     (folder / "log.program.0.0").write_bytes(elf())
     convert(log, name, go, RecordingOptions())
-    assert (written(folder, "read"), len(written(folder, "called"))) == ([str(folder / "log.program.0.0")], 1)
+    assert ((folder / "read").read_bytes(), len(written(folder, "called"))) == (elf(), 1)
 
 
 def test_where_go_can_not_build_it_that_is_said_and_go_is_asked_later(folder: Path) -> None:

@@ -1,6 +1,7 @@
 """The recorder's logs can be read even if they are damaged, and the stored logs become the stored recordings and
 lines."""
 
+import io
 import pathlib
 import random
 import struct
@@ -68,7 +69,7 @@ def test_stored_logs_give_the_stored_lines(monkeypatch: pytest.MonkeyPatch) -> N
             with monkeypatch.context() as patch:
                 patch.setattr(source_lines, "shift", lambda *_, **__: 0)
                 patch.setattr(source_lines, "looked_up", lambda *_, **__: symbols)
-                calls = lines_of(log, set(recording.stacks), pathlib.Path("none"), ["go"], SourceRoots(sources, here))
+                calls = lines_of(log, set(recording.stacks), io.BytesIO(), ["go"], SourceRoots(sources, here))
             made_file = pathlib.Path(folder, "made.where")
             write_where(made_file, recording.stacks, calls)
             assert made_file.read_text() == (REAL / f"{name}.where").read_text(), name
@@ -371,7 +372,8 @@ def test_the_next_line_has_the_commands_of_the_first_suspect() -> None:
 def test_addresses_become_lines(monkeypatch: pytest.MonkeyPatch) -> None:
     result = "main.f\n/p/main.go:14\n?\n?:0\n"
     monkeypatch.setattr(source_lines.subprocess, "run", lambda *_, **__: stub(stdout=result))
-    assert looked_up(pathlib.Path("p"), ["go"], [5, 4], 0) == {4: ("main.f", "/p/main.go", 14)}
+    with tempfile.TemporaryFile() as program:
+        assert looked_up(program, ["go"], [5, 4], 0) == {4: ("main.f", "/p/main.go", 14)}
 
 
 def test_without_go_there_is_a_recording_without_lines(folder: pathlib.Path, monkeypatch: pytest.MonkeyPatch) -> None:

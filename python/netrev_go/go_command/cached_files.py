@@ -1,0 +1,81 @@
+"""Folders of the user's cache whose files netrev-go makes once. Checksums lie beside the files, so that files
+that were damaged, for instance by a power cut, are made anew."""
+
+from __future__ import annotations
+
+import fcntl
+import hashlib
+import json
+import os
+import pathlib
+from collections.abc import Callable
+
+from netrev.messages import recorder as messages
+
+from .trusted_files import UntrustedFileError, opened
+
+SUMS = "sums.json"
+MOST_OF_A_FILE = 2**28
+
+
+def made_once(folder: pathlib.Path, make: Callable[[], list[str]]) -> None:
+    """Makes the files of a folder, and returns their names, unless they are whole. Raises OSError, or UntrustedFileError
+    if another user could have made them."""
+    for path in (folder.parent, folder):
+        check_owner(path)
+    if is_whole(folder):
+        return
+    folder.mkdir(0o700, parents=True, exist_ok=True)
+    lock = os.open(folder / "lock", os.O_RDWR | os.O_CREAT | os.O_NOFOLLOW | os.O_NONBLOCK | os.O_CLOEXEC, 0o600)
+    with open(lock, "w", encoding="utf-8") as file:
+        fcntl.flock(file, fcntl.LOCK_EX)
+        if not is_whole(folder):  # no other process has made them meanwhile
+            seal(folder, make())
+
+
+def check_owner(folder: pathlib.Path) -> None:
+    """Raises UntrustedFileError if a folder, or a link in its place, belongs to another user."""
+    if os.path.lexists(folder):
+        for user in {folder.lstat().st_uid, folder.stat().st_uid} - {os.geteuid()}:
+            raise UntrustedFileError(
+                messages.NOT_USED.format(path=folder, why=messages.OF_ANOTHER_USER.format(user=user))
+            )
+
+
+def is_whole(folder: pathlib.Path) -> bool:
+    """Whether the files of a folder are those that were made; raises UntrustedFileError if one isn't this user's."""
+    try:
+        sums = json.loads(content(folder / SUMS))
+        return bool(sums) and sums == sums_of(folder, list(sums))
+    except (OSError, ValueError, TypeError, AttributeError):
+        return False
+
+
+def content(path: pathlib.Path) -> bytes:
+    try:
+        with opened(path, (os.geteuid(),), MOST_OF_A_FILE) as file:
+            return file.read()
+    except UntrustedFileError as why:
+        raise UntrustedFileError(messages.NOT_USED.format(path=path, why=why)) from None
+
+
+def sums_of(folder: pathlib.Path, names: list[str]) -> dict[str, str]:
+    return {name: hashlib.sha256(content(folder / name)).hexdigest() for name in names}
+
+
+def seal(folder: pathlib.Path, names: list[str]) -> None:
+    """Stores the checksums of new files, after the files themselves are on the disk."""
+    new = folder / f"{SUMS}.new"
+    new.write_text(json.dumps(sums_of(folder, names)), encoding="utf-8")
+    for name in (*names, new.name):
+        sync(folder / name)
+    new.replace(folder / SUMS)
+    sync(folder)
+
+
+def sync(path: pathlib.Path) -> None:
+    handle = os.open(path, os.O_RDONLY)
+    try:
+        os.fsync(handle)
+    finally:
+        os.close(handle)

@@ -1,0 +1,76 @@
+"""Opens files whose names other users can work out: a log, the files beside it, and those of the cache. In /dev/shm and
+/tmp any user can put a link, a pipe or a file at such a name, so a file counts only if it is regular, belongs to the right
+user, and isn't too large."""
+
+from __future__ import annotations
+
+import os
+import pathlib
+import stat
+from collections.abc import Container
+from contextlib import suppress
+from typing import BinaryIO
+
+from netrev.errors import NetrevError
+from netrev.messages import recorder as messages
+
+from .terminal import complain
+
+FLAGS = os.O_RDONLY | os.O_NOFOLLOW | os.O_NONBLOCK | os.O_CLOEXEC | os.O_NOCTTY
+KINDS = {stat.S_IFLNK: "a link", stat.S_IFIFO: "a FIFO", stat.S_IFSOCK: "a socket", stat.S_IFDIR: "a folder"}
+MOST_OF_LOG = 2**30 + 2**28  # a ring of 16,777,216 points, and the tables
+MOST_OF_PROGRAM = 2**30
+OTHERS_WRITE = stat.S_IWGRP | stat.S_IWOTH
+COMPLAINED: set[pathlib.Path] = set()
+
+
+class UntrustedFileError(NetrevError):
+    """The file isn't used; the message is the reason."""
+
+
+def owners_of(process: int | None = None) -> set[int]:
+    """The users whose log may be read: this user, and the owner of the process that writes the log."""
+    owners = {os.geteuid()}
+    with suppress(OSError):  # the process may have ended
+        owners |= {os.stat(f"/proc/{process}").st_uid} if process is not None else set()
+    return owners
+
+
+def check(path: pathlib.Path, status: os.stat_result, owners: Container[int], most: int) -> None:
+    """Raises UntrustedFileError unless the file with this status can be trusted. Another user may give a further name to
+    a file of the right owner, but only in a folder in which that user can write."""
+    kind = stat.S_IFMT(status.st_mode)
+    if kind != stat.S_IFREG:
+        raise UntrustedFileError(messages.OF_WRONG_KIND.format(kind=KINDS.get(kind, "a device")))
+    if status.st_uid not in owners:
+        raise UntrustedFileError(messages.OF_ANOTHER_USER.format(user=status.st_uid))
+    if status.st_size > most:
+        raise UntrustedFileError(messages.TOO_LARGE.format(bytes=status.st_size))
+    if status.st_nlink > 1 and path.parent.stat().st_mode & OTHERS_WRITE:
+        raise UntrustedFileError(messages.SEVERAL_NAMES.format(count=status.st_nlink))
+
+
+def opened(path: pathlib.Path, owners: Container[int], most: int, buffering: int = -1) -> BinaryIO:
+    """The file, opened without waiting and without following a link. Raises UntrustedFileError, or OSError."""
+    check(path, path.lstat(), owners, most)
+    handle = os.open(path, FLAGS)
+    try:
+        check(path, os.fstat(handle), owners, most)  # it may have been replaced meanwhile
+        return os.fdopen(handle, "rb", buffering)
+    except BaseException:
+        os.close(handle)
+        raise
+
+
+def opened_beside(path: pathlib.Path, owner: int, most: int) -> BinaryIO | None:
+    """A file beside a log of this owner; None if it is missing, or if it isn't used, for which one line gives the
+    reason."""
+    try:
+        return opened(path, (owner,), most)
+    except FileNotFoundError:
+        return None
+    except (OSError, UntrustedFileError) as fault:
+        if path not in COMPLAINED:
+            COMPLAINED.add(path)
+            complain(messages.NOT_USED.format(path=path, why=getattr(fault, "strerror", None) or fault))
+        return None
