@@ -75,10 +75,11 @@ def check_links(path: Path) -> None:
 
 
 def permissions_of(path: Path) -> int | None:
-    """The permissions of this user's file; None if it is missing, or another user's."""
+    """The permissions of this user's file; None if it is missing, a link, or another user's."""
     with suppress(OSError):
-        status = path.stat()
-        return stat.S_IMODE(status.st_mode) if status.st_uid == os.geteuid() else None
+        status = path.lstat()
+        if stat.S_ISREG(status.st_mode) and status.st_uid == os.geteuid():
+            return stat.S_IMODE(status.st_mode)
     return None
 
 
