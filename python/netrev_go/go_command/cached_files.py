@@ -12,7 +12,7 @@ from collections.abc import Callable
 
 from netrev.messages import recorder as messages
 
-from .trusted_files import UntrustedFileError, opened
+from .trusted_files import UntrustedFileError, check_owner, opened
 
 SUMS = "sums.json"
 MOST_OF_A_FILE = 2**28
@@ -31,15 +31,6 @@ def made_once(folder: pathlib.Path, make: Callable[[], list[str]]) -> None:
         fcntl.flock(file, fcntl.LOCK_EX)
         if not is_whole(folder):  # no other process has made them meanwhile
             seal(folder, make())
-
-
-def check_owner(folder: pathlib.Path) -> None:
-    """Raises UntrustedFileError if a folder, or a link in its place, belongs to another user."""
-    if os.path.lexists(folder):
-        for user in {folder.lstat().st_uid, folder.stat().st_uid} - {os.geteuid()}:
-            raise UntrustedFileError(
-                messages.NOT_USED.format(path=folder, why=messages.OF_ANOTHER_USER.format(user=user))
-            )
 
 
 def is_whole(folder: pathlib.Path) -> bool:

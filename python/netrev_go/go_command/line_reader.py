@@ -12,7 +12,7 @@ from netrev.messages import recorder as messages
 
 from .cached_files import is_whole, made_once
 from .toolchain import Go, RecorderError, cache, quiet_go
-from .trusted_files import UntrustedFileError
+from .trusted_files import UntrustedFileError, reason_of
 
 NAME = "addr2line"
 PACKAGE = "cmd/addr2line"
@@ -57,8 +57,7 @@ def build_line_reader(go: Go) -> pathlib.Path:
     try:
         made_once(program.parent, build)
     except (OSError, UntrustedFileError) as fault:
-        why = getattr(fault, "strerror", None) or fault
-        raise RecorderError(messages.READER_UNUSABLE.format(folder=program.parent, why=why)) from None
+        raise RecorderError(messages.READER_UNUSABLE.format(folder=program.parent, why=reason_of(fault))) from None
     return program
 
 

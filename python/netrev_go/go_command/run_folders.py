@@ -25,7 +25,7 @@ from netrev.messages import recorder as messages
 
 from .running import PREFIX, logs_in, places, still_written
 from .toolchain import RecorderError
-from .trusted_files import UntrustedFileError, opened
+from .trusted_files import UntrustedFileError, check_owner, opened, reason_of
 
 OWNER = (
     "owner"  # a file that netrev-go keeps locked while it owns the folder; the kernel unlocks it however netrev-go ends
@@ -67,6 +67,17 @@ def claim(folder: pathlib.Path) -> pathlib.Path:
     except OSError as fault:
         raise RecorderError(messages.NO_LOGS_IN.format(folder=folder, why=fault.strerror)) from None
     HELD[folder] = file
+    return folder
+
+
+def own_folder(place: str) -> pathlib.Path:
+    """This user's folder for the logs of a shell."""
+    folder = pathlib.Path(place, f"netrev-{os.geteuid()}")
+    try:
+        folder.mkdir(0o700, exist_ok=True)
+        check_owner(folder)
+    except (OSError, UntrustedFileError) as fault:
+        raise RecorderError(messages.NO_LOGS_IN.format(folder=folder, why=reason_of(fault))) from None
     return folder
 
 

@@ -18,7 +18,7 @@ from netrev.messages import recorder as messages
 from netrev.system.command_lines import command
 
 from .cached_files import made_once
-from .trusted_files import UntrustedFileError
+from .trusted_files import UntrustedFileError, reason_of
 
 SOURCES = pathlib.Path(__file__).resolve().parents[1] / "go"
 OVERLAY, NEW, LEFT_OUT = "overlay.json", "new.json", "without.txt"
@@ -143,8 +143,7 @@ def overlay(go: Go) -> pathlib.Path:
     try:
         made_once(folder, lambda: make_overlay(go, folder))
     except (OSError, UntrustedFileError) as fault:
-        why = getattr(fault, "strerror", None) or fault
-        raise RecorderError(messages.CACHE_UNUSABLE.format(folder=folder, why=why)) from None
+        raise RecorderError(messages.CACHE_UNUSABLE.format(folder=folder, why=reason_of(fault))) from None
     return folder / OVERLAY
 
 

@@ -50,6 +50,18 @@ def check(path: pathlib.Path, status: os.stat_result, owners: Container[int], mo
         raise UntrustedFileError(messages.SEVERAL_NAMES.format(count=status.st_nlink))
 
 
+def check_owner(folder: pathlib.Path) -> None:
+    """Raises UntrustedFileError if a folder, or a link in its place, belongs to another user."""
+    if os.path.lexists(folder):
+        for user in {folder.lstat().st_uid, folder.stat().st_uid} - {os.geteuid()}:
+            raise UntrustedFileError(messages.OF_ANOTHER_USER.format(user=user))
+
+
+def reason_of(fault: OSError | UntrustedFileError) -> str:
+    """Why a file can't be used."""
+    return getattr(fault, "strerror", None) or str(fault)
+
+
 def opened(path: pathlib.Path, owners: Container[int], most: int, buffering: int = -1) -> BinaryIO:
     """The file, opened without waiting and without following a link. Raises UntrustedFileError, or OSError."""
     check(path, path.lstat(), owners, most)
@@ -72,5 +84,5 @@ def opened_beside(path: pathlib.Path, owner: int, most: int) -> BinaryIO | None:
     except (OSError, UntrustedFileError) as fault:
         if path not in COMPLAINED:
             COMPLAINED.add(path)
-            complain(messages.NOT_USED.format(path=path, why=getattr(fault, "strerror", None) or fault))
+            complain(messages.NOT_USED.format(path=path, why=reason_of(fault)))
         return None

@@ -23,6 +23,7 @@ from netrev_go.go_command.trusted_files import (  # fmt: skip
     opened,
     opened_beside,
     owners_of,
+    reason_of,
 )
 from netrev_go.log.goroutines import Goroutines
 from netrev_go.log.logfile import NotALogError, copy_of, log_of
@@ -87,8 +88,7 @@ def read_whole(path: pathlib.Path, process: int | None = None, tests: Tests | No
             status = os.fstat(file.fileno())
             log = log_of(file) if process is None else log_of(copy_of(file), True)
     except (OSError, UntrustedFileError) as fault:
-        why = messages.UNREADABLE.format(why=getattr(fault, "strerror", None) or fault)
-        raise NotALogError(uncopied(path) or why) from None
+        raise NotALogError(uncopied(path) or messages.UNREADABLE.format(why=reason_of(fault))) from None
     except MemoryError:
         raise NotALogError(messages.OUT_OF_MEMORY) from None
     known = of_log(path, status.st_uid) if tests is None else tests

@@ -6,6 +6,7 @@ import io
 import json
 import os
 import re
+import shlex
 import shutil
 import signal
 import subprocess
@@ -18,7 +19,8 @@ from typing import Any
 
 import pytest
 
-from dev.fuzz.generators.logs import from_text
+from dev.fuzz.generators.logs import binary, from_text
+from netrev.messages import recorder as messages
 from netrev.text.files import whole
 from netrev_go import cli, recordings
 from netrev_go.cli import ExitStatus
@@ -30,6 +32,7 @@ from netrev_go.steps import recording_builder, report
 from netrev_go.steps.recording_builder import make
 from netrev_go.steps.zeros import Zeros
 from tests.logs.test_go_converting import WORD, Points
+from tests.logs.test_go_logs import opened
 from tests.support.stubs import raising
 
 PYTHON = Path(__file__).resolve().parents[2]
@@ -92,8 +95,7 @@ class Run:
 
 
 @pytest.fixture
-def run(folder: Path, tmp_path: Path, monkeypatch: pytest.MonkeyPatch, cleanups: ExitStack) -> Run:
-    monkeypatch.setenv("NETREV_LOGS", str(tmp_path))
+def run(folder: Path, monkeypatch: pytest.MonkeyPatch, cleanups: ExitStack) -> Run:
     return Run(folder, monkeypatch, cleanups)
 
 
@@ -201,6 +203,39 @@ def test_processes_that_cannot_write_a_log_are_named(run: Run) -> None:
         assert "the logs are in" not in output
     returned, output = run.called("run", ".", does=marks, leaves="true")
     assert (returned, "nothing was recorded" in output) == (0, False), output
+
+
+def test_go_may_fail_after_a_program_ran_that_opened_no_log(run: Run) -> None:
+    for status in (0, 1):
+        for command in ("run", "test"):
+            returned, output = run.called(command, ".", status=status, leaves="true")
+            assert (returned, output) == (status, f"netrev-go: {messages.NOTHING_RAN}\n")
+
+
+def test_memory_that_runs_out_stops_only_the_log_that_needs_it(run: Run) -> None:
+    (run.folder / "large").write_bytes(binary(opened(150_000)))
+    words = [sys.executable, str(PYTHON), "netrev_go", "-o", "x", "convert", "large", "stored"]
+    script = f"ulimit -v 150000; exec {shlex.join(words)}"
+    ended = subprocess.run(["sh", "-c", script], capture_output=True, text=True, check=False)
+    assert (ended.returncode, ended.stderr, "large: memory ran out\n" in ended.stdout) == (1, "", True), ended
+    assert (run.folder / "x-2.jsonl").read_text() == WHOLE and not (run.folder / "x.jsonl").exists()
+
+
+@pytest.mark.parametrize(
+    "of_log, before, after",
+    [(0o600, None, 0o600), (0o640, None, 0o640), (0o777, None, 0o644), (0o400, None, 0o600), (0o600, 0o664, 0o664)],
+)
+def test_a_new_recording_has_the_permissions_of_its_log(of_log: int, before: int | None, after: int, run: Run) -> None:
+    run.log.with_name("stored.tests").write_text("1 1 5 package p\n2 3 9 runs T\n")
+    run.log.chmod(of_log)
+    names = [run.folder / f"x.{ending}" for ending in ("jsonl", "where", "words")]
+    for name in names if before is not None else ():
+        name.write_text('{"where":1}')
+        name.chmod(before or 0)
+    umask = os.umask(0o022)
+    status, output = run.called("--words", "-o", "x", "convert", "stored")
+    os.umask(umask)
+    assert (status, [name.stat().st_mode & 0o777 for name in names]) == (0, [after] * 3), output
 
 
 def test_logs_that_are_gone_are_said_to_be(run: Run) -> None:
