@@ -82,7 +82,7 @@ def logs_in(folder: pathlib.Path) -> list[pathlib.Path]:
     """The logs of a folder, in the order in which their processes began; none if the folder is gone."""
     try:
         logs = [path for path in folder.iterdir() if LOG.match(path.name)]
-        return sorted(logs, key=lambda path: path.stat().st_ino)
+        return sorted(logs, key=lambda path: path.lstat().st_ino)
     except FileNotFoundError:
         return []
 
