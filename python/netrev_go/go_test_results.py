@@ -142,9 +142,9 @@ class Recordings:
     def read(self, log: pathlib.Path, tests: Tests) -> ReadLog | None:
         try:
             return read_whole(log, tests=tests)
-        except NotALogError as fault:
+        except (NotALogError, MemoryError) as fault:
             self.all_recorded = False
-            complain(f"{log}: {fault}")
+            complain(f"{log}: {str(fault) or messages.OUT_OF_MEMORY}")
             return None
 
     def made(self, read: ReadLog | None, name: pathlib.Path, test: Ran | None, hear: Hear) -> Conversion | None:
@@ -156,7 +156,7 @@ class Recordings:
         try:
             name.parent.mkdir(parents=True, exist_ok=True)
             outcome = converted(read, name, self._go, replace(self._wish, failed=failed), test, hear=hear)
-        except OSError as fault:
+        except (OSError, MemoryError) as fault:
             complain(unwritten(name, fault))
             self.all_recorded, self.trouble = False, True
             return None

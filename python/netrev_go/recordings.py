@@ -50,8 +50,10 @@ def convert_hint(folder: pathlib.Path, logs: list[pathlib.Path]) -> str:
     return messages.NOTHING_IS_LOST.format(netrev_go=command("netrev-go"), logs=words_for(folder, logs))
 
 
-def unwritten(name: pathlib.Path, fault: OSError) -> str:
+def unwritten(name: pathlib.Path, fault: OSError | MemoryError) -> str:
     """The reason why a recording is missing."""
+    if isinstance(fault, MemoryError):
+        return f"{name}: {messages.OUT_OF_MEMORY}"
     return f"{fault.filename or name}: {fault.strerror or fault}"
 
 

@@ -20,7 +20,7 @@ from .go_command.running import log_of_process, writes
 from .go_command.terminal import complain, say
 from .go_command.status import ExitStatus
 from .go_command.toolchain import Go, RecorderError
-from .go_command.trusted_files import MOST_OF_LOG, UntrustedFileError, opened, owners_of
+from .go_command.trusted_files import opened_log
 from .log.logfile import HEADER_BYTES, ROW_WORDS, WAITER_WORDS, WORD, Header, NotALogError, stack_at
 from .log.notes import PARKED
 from .log.points import Log
@@ -144,7 +144,7 @@ def watch(options: argparse.Namespace, go: Go | None, recording_options: Recordi
     look(base_name(options.o, "snapshot"))
     pause = min(max(options.stuck / LOOKS, OFTENEST), SELDOMEST)
     try:
-        with opened(log, owners_of(options.pid), MOST_OF_LOG, 0) as file:
+        with opened_log(log, options.pid, 0) as file:
             header = Header(file.read(HEADER_BYTES))
             if not header.rows:
                 raise RecorderError(messages.NO_TABLE.format(log=plain(str(log))))
@@ -156,7 +156,8 @@ def watch(options: argparse.Namespace, go: Go | None, recording_options: Recordi
                     say([plain(watching.words(found))])
                     return snapshot(options, go, replace(recording_options, first=found.word, failed=True), known)
                 time.sleep(pause)
-    except (OSError, NotALogError, UntrustedFileError) as fault:
-        raise RecorderError(messages.LOG_UNREADABLE.format(log=plain(str(log)), why=fault)) from None
+    except (OSError, NotALogError) as fault:
+        why = getattr(fault, "strerror", None) or fault
+        raise RecorderError(messages.LOG_UNREADABLE.format(log=plain(str(log)), why=why)) from None
     complain(messages.NO_LONG_WAIT.format(process=options.pid))
     return ExitStatus.DONE

@@ -10,17 +10,14 @@ import os
 import pathlib
 from collections.abc import Callable
 
-from netrev.messages import recorder as messages
-
-from .trusted_files import UntrustedFileError, check_owner, opened
+from .trusted_files import UntrustedFileError, check_owner, opened_own
 
 SUMS = "sums.json"
-MOST_OF_A_FILE = 2**28
 
 
 def made_once(folder: pathlib.Path, make: Callable[[], list[str]]) -> None:
-    """Makes the files of a folder, and returns their names, unless they are whole. Raises OSError, or UntrustedFileError
-    if another user could have made them."""
+    """Makes the files of a folder unless they are whole; `make` returns their names. Raises UntrustedFileError if another
+    user could have made them, or another OSError."""
     for path in (folder.parent, folder):
         check_owner(path)
     if is_whole(folder):
@@ -38,16 +35,15 @@ def is_whole(folder: pathlib.Path) -> bool:
     try:
         sums = json.loads(content(folder / SUMS))
         return bool(sums) and sums == sums_of(folder, list(sums))
-    except (OSError, ValueError, TypeError, AttributeError):
+    except UntrustedFileError:
+        raise
+    except (OSError, ValueError, TypeError):
         return False
 
 
 def content(path: pathlib.Path) -> bytes:
-    try:
-        with opened(path, (os.geteuid(),), MOST_OF_A_FILE) as file:
-            return file.read()
-    except UntrustedFileError as why:
-        raise UntrustedFileError(messages.NOT_USED.format(path=path, why=why)) from None
+    with opened_own(path) as file:
+        return file.read()
 
 
 def sums_of(folder: pathlib.Path, names: list[str]) -> dict[str, str]:

@@ -12,7 +12,7 @@ from netrev.messages import recorder as messages
 
 from .cached_files import is_whole, made_once
 from .toolchain import Go, RecorderError, cache, quiet_go
-from .trusted_files import UntrustedFileError, reason_of
+from .trusted_files import UntrustedFileError
 
 NAME = "addr2line"
 PACKAGE = "cmd/addr2line"
@@ -56,8 +56,10 @@ def build_line_reader(go: Go) -> pathlib.Path:
 
     try:
         made_once(program.parent, build)
-    except (OSError, UntrustedFileError) as fault:
-        raise RecorderError(messages.READER_UNUSABLE.format(folder=program.parent, why=reason_of(fault))) from None
+    except OSError as fault:
+        raise RecorderError(
+            messages.READER_UNUSABLE.format(folder=fault.filename or program.parent, why=fault.strerror)
+        ) from None
     return program
 
 

@@ -19,13 +19,13 @@ import time
 from collections import defaultdict
 from dataclasses import dataclass
 from itertools import islice
-from typing import IO, Any
+from typing import IO, Any, BinaryIO
 
 from netrev.messages import recorder as messages
 
 from .running import PREFIX, logs_in, places, still_written
 from .toolchain import RecorderError
-from .trusted_files import UntrustedFileError, check_owner, opened, reason_of
+from .trusted_files import check_owner, opened_own
 
 OWNER = (
     "owner"  # a file that netrev-go keeps locked while it owns the folder; the kernel unlocks it however netrev-go ends
@@ -35,7 +35,8 @@ UNRECORDED = (
     "log.unrecorded"  # a folder in which each process that can't write a log leaves an empty file (go/log/runtime.go)
 )
 MARK = re.compile(r"process\.(\d{1,10})\.(\d{1,4})\Z")
-MOST_MARKS, MOST_OF_COMMAND, MOST_OF_OWNER = 1_000, 4_096, 2**16
+MOST_MARKS, MOST_OF_COMMAND = 1_000, 4_096
+SECRET = "[0-9a-f]" * 32  # the name of root's folder in the folder that was made for a run
 WHY = {
     errno.EFBIG: messages.FILE_SIZE_IS_LIMITED,
     errno.EEXIST: messages.TOO_MANY_PROGRAMS,
@@ -76,8 +77,8 @@ def own_folder(place: str) -> pathlib.Path:
     try:
         folder.mkdir(0o700, exist_ok=True)
         check_owner(folder)
-    except (OSError, UntrustedFileError) as fault:
-        raise RecorderError(messages.NO_LOGS_IN.format(folder=folder, why=reason_of(fault))) from None
+    except OSError as fault:
+        raise RecorderError(messages.NO_LOGS_IN.format(folder=folder, why=fault.strerror)) from None
     return folder
 
 
@@ -96,7 +97,7 @@ def remove(folder: pathlib.Path) -> None:
 
 def outermost(folder: pathlib.Path) -> pathlib.Path:
     """The folder that was made for a run."""
-    return folder.parent if folder.parent.name.startswith(PREFIX) else folder
+    return folder.parent if folder.match(SECRET) else folder
 
 
 def unrecorded(folder: pathlib.Path) -> list[str]:
@@ -131,28 +132,35 @@ def left_runs(name: str = OWNER) -> list[LeftRun]:
     """The runs that are left, oldest first: this user's runs that no netrev-go owns and whose logs no program still
     writes. With KEPT, the runs whose logs were kept. Folders without logs are removed."""
     folders = [folder for place in places() for folder in pathlib.Path(place).glob(PREFIX + "*") if is_own(folder)]
-    found = [left_run(folder, name) for outer in folders for folder in (outer, *folders_in(outer))]
+    found = [left_run(folder, name) for outer in folders for folder in (outer, *outer.glob(SECRET))]
     return sorted(filter(None, found), key=lambda run: run.began)
-
-
-def folders_in(folder: pathlib.Path) -> list[pathlib.Path]:
-    with contextlib.suppress(OSError):
-        return [inner for inner in folder.iterdir() if is_own(inner)]
-    return []
 
 
 def left_run(folder: pathlib.Path, name: str) -> LeftRun | None:
     """The leftover run in a folder, if any."""
-    try:
-        with opened(folder / name, (os.geteuid(),), MOST_OF_OWNER) as file:
-            fcntl.flock(file, fcntl.LOCK_EX | fcntl.LOCK_NB)
-            command = file.readline(MOST_OF_COMMAND).decode("utf-8", "replace").rstrip("\n")
-            began = os.fstat(file.fileno()).st_mtime
-            if not logs_in(folder) and not is_in_use(folder):
-                remove(folder)
-    except (OSError, UntrustedFileError):  # a running netrev-go has the lock, or the folder is gone
+    file = locked(folder / name)
+    if file is None:
         return None
+    with file:
+        command = file.readline(MOST_OF_COMMAND).decode("utf-8", "replace").rstrip("\n")
+        began = os.fstat(file.fileno()).st_mtime
+        if not logs_in(folder) and not is_in_use(folder):
+            remove(folder)
     return LeftRun(folder, command, began) if logs_in(folder) and not still_written(folder) else None
+
+
+def locked(path: pathlib.Path) -> BinaryIO | None:
+    """This user's file, locked; None if a running netrev-go has the lock, or the file is gone."""
+    try:
+        file = opened_own(path)
+    except OSError:
+        return None
+    try:
+        fcntl.flock(file, fcntl.LOCK_EX | fcntl.LOCK_NB)
+    except OSError:
+        file.close()
+        return None
+    return file
 
 
 def is_in_use(folder: pathlib.Path) -> bool:
@@ -167,19 +175,16 @@ def is_in_use(folder: pathlib.Path) -> bool:
 
 def is_own(folder: pathlib.Path) -> bool:
     """Whether this is a folder of this user, and no link."""
-    try:
+    with contextlib.suppress(OSError):
         status = folder.lstat()
-    except OSError:
-        return False
-    return status.st_uid == os.geteuid() and stat.S_ISDIR(status.st_mode)
+        return status.st_uid == os.geteuid() and stat.S_ISDIR(status.st_mode)
+    return False
 
 
 def take_over(run: LeftRun) -> bool:
     """Makes this netrev-go the owner of a leftover run, unless another netrev-go already is."""
-    try:
-        file = opened(run.folder / OWNER, (os.geteuid(),), MOST_OF_OWNER)
-        fcntl.flock(file, fcntl.LOCK_EX | fcntl.LOCK_NB)
-    except (OSError, UntrustedFileError):
+    file = locked(run.folder / OWNER)
+    if file is None:
         return False
     HELD[run.folder] = file
     return True

@@ -19,7 +19,7 @@ from netrev.messages import recorder as messages
 from netrev.system.command_lines import command
 
 from .toolchain import RecorderError
-from .trusted_files import MOST_OF_LOG, UntrustedFileError, opened, owners_of
+from .trusted_files import opened_log
 
 MOST_POINTS = 2**20
 POINT_BYTES, STACK_BYTES, SPARE = 64, 4 * 2**20, 64 * 2**20
@@ -252,7 +252,7 @@ def mapped_log(process: int) -> pathlib.Path | None:
 def has_begun(log: pathlib.Path, process: int) -> bool:
     """Whether a log has its header. A log that can't be read counts as begun, and its reader reports the reason."""
     try:
-        with opened(log, owners_of(process), MOST_OF_LOG) as file:
+        with opened_log(log, process) as file:
             return any(file.read(8))
-    except (OSError, UntrustedFileError):
+    except OSError:
         return True

@@ -18,7 +18,6 @@ from netrev.messages import recorder as messages
 from netrev.system.command_lines import command
 
 from .cached_files import made_once
-from .trusted_files import UntrustedFileError, reason_of
 
 SOURCES = pathlib.Path(__file__).resolve().parents[1] / "go"
 OVERLAY, NEW, LEFT_OUT = "overlay.json", "new.json", "without.txt"
@@ -142,8 +141,10 @@ def overlay(go: Go) -> pathlib.Path:
     folder = cache() / key_of(go)
     try:
         made_once(folder, lambda: make_overlay(go, folder))
-    except (OSError, UntrustedFileError) as fault:
-        raise RecorderError(messages.CACHE_UNUSABLE.format(folder=folder, why=reason_of(fault))) from None
+    except OSError as fault:
+        raise RecorderError(
+            messages.CACHE_UNUSABLE.format(folder=fault.filename or folder, why=fault.strerror)
+        ) from None
     return folder / OVERLAY
 
 

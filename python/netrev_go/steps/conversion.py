@@ -16,15 +16,7 @@ from netrev.text.plain import plain
 from netrev_go.go_command.line_reader import line_reader
 from netrev_go.go_command.outputs import LINES, WORDS
 from netrev_go.go_command.toolchain import Go
-from netrev_go.go_command.trusted_files import (  # fmt: skip
-    MOST_OF_LOG,
-    MOST_OF_PROGRAM,
-    UntrustedFileError,
-    opened,
-    opened_beside,
-    owners_of,
-    reason_of,
-)
+from netrev_go.go_command.trusted_files import opened_beside, opened_log, owners_of
 from netrev_go.log.goroutines import Goroutines
 from netrev_go.log.logfile import NotALogError, copy_of, log_of
 from netrev_go.log.points import Log
@@ -84,13 +76,11 @@ def read_whole(path: pathlib.Path, process: int | None = None, tests: Tests | No
     """Reads a log of this user, or the log that a process is writing, which is copied first. `tests` are its tests if
     they are known. Raises NotALogError."""
     try:
-        with opened(path, owners_of(process), MOST_OF_LOG) as file:
+        with opened_log(path, process) as file:
             status = os.fstat(file.fileno())
             log = log_of(file) if process is None else log_of(copy_of(file), True)
-    except (OSError, UntrustedFileError) as fault:
-        raise NotALogError(uncopied(path) or messages.UNREADABLE.format(why=reason_of(fault))) from None
-    except MemoryError:
-        raise NotALogError(messages.OUT_OF_MEMORY) from None
+    except OSError as fault:
+        raise NotALogError(uncopied(path) or messages.UNREADABLE.format(why=fault.strerror)) from None
     known = of_log(path, status.st_uid) if tests is None else tests
     return ReadLog(path, log, known, status.st_uid, status.st_mode & 0o666 | 0o600)
 
@@ -119,8 +109,8 @@ def convert(
     A log that a process is still writing is copied first."""
     try:
         return converted(read_whole(log, process), name, go, options, known=known, hear=hear)
-    except NotALogError as fault:
-        return Conversion(False, [f"{plain(str(log))}: {fault}"])
+    except (NotALogError, MemoryError) as fault:
+        return Conversion(False, [f"{plain(str(log))}: {str(fault) or messages.OUT_OF_MEMORY}"])
 
 
 def converted(
@@ -132,24 +122,7 @@ def converted(
     known: list[object] | None = None,
     hear: Hear = unheard,
 ) -> Conversion:
-    """Makes the recording NAME from a log that was read, or from one of its tests, unless memory runs out."""
-    try:
-        return made(read, name, go, options, test, known, hear)
-    except MemoryError:
-        if known is not None:
-            known.clear()
-        return Conversion(False, [f"{plain(str(read.path))}: {messages.OUT_OF_MEMORY}"])
-
-
-def made(
-    read: ReadLog,
-    name: pathlib.Path,
-    go: Go | None,
-    options: RecordingOptions,
-    test: Ran | None,
-    known: list[object] | None,
-    hear: Hear,
-) -> Conversion:
+    """Makes the recording NAME from a log that was read, or from one of its tests."""
     log = read.log
     part: Part | None = None
     if test is not None:
@@ -188,9 +161,7 @@ def made(
 def calls_of(read: ReadLog, used: set[int], go: Go) -> dict[int, Calls]:
     """The calls of the used stacks, from the copy of the program beside the log."""
     roots = SourceRoots(go.sources(), pathlib.Path.cwd())
-    with opened_beside(
-        program_of(read.path, read.log.program), read.owner, MOST_OF_PROGRAM
-    ) or nullcontext() as program:
+    with opened_beside(program_of(read.path, read.log.program), read.owner) or nullcontext() as program:
         return lines_of(read.log, used, program, line_reader(go), roots)
 
 

@@ -21,6 +21,7 @@ import pytest
 
 from dev.fuzz.generators.logs import from_text
 from dev.recorder.fetching import chosen, is_here
+from dev.recorder.suites import SAMPLES
 from netrev.system.time_limits import time_limit
 from netrev_go import cli
 from netrev_go.go_command import toolchain, trusted_files
@@ -29,7 +30,7 @@ from netrev_go.go_command.toolchain import Go, RecorderError, overlay, quiet_go
 from netrev_go.steps import report
 from tests.go_command.test_go_line_reader import elf
 from tests.go_command.test_go_signals import RUNS, killed
-from tests.support.go_stand_in import STORED, WHOLE, StandIn
+from tests.support.go_stand_in import STORED, WHOLE, StandIn, wait_until
 
 OTHER = 12_345  # a user
 AS_OTHER = ["setpriv", f"--reuid={OTHER}", f"--regid={OTHER}", "--clear-groups"]
@@ -136,6 +137,17 @@ def test_a_file_beside_a_log_has_to_be_its_owner_s(name: str, trick: str, why: s
     assert [line for line in lines if name in line] == [f"netrev-go: {name} isn't used: {why}"], lines
     assert (status, (shared.own / "x.jsonl").read_text()) == (0, WHOLE.read_text())
     assert not is_planted(shared.own)
+
+
+@pytest.mark.parametrize("trick", TRICKS)
+def test_a_file_that_is_replaced_after_it_was_examined_is_examined_again(
+    trick: str, shared: Shared, monkeypatch: pytest.MonkeyPatch
+) -> None:
+    shared.tried(trick, LOG)
+    status = (shared.own / LOG).lstat()
+    monkeypatch.setattr(Path, "lstat", lambda path: status)
+    with pytest.raises(OSError), time_limit(PATIENCE, "it hangs"):
+        trusted_files.opened_log(Path(LOG)).close()
 
 
 @pytest.mark.parametrize("name", [PROGRAM, TESTS])
@@ -305,38 +317,22 @@ def test_another_user_can_neither_hide_nor_plant_an_interrupted_run(folder: Path
     assert "no run was interrupted" in netrev_go.call("recover")[1]
 
 
-SERVER = """package main
-
-import (
-	"net"
-	"os"
-	"time"
-)
-
-func main() {
-	listener, _ := net.Listen("tcp", "127.0.0.1:0")
-	go listener.Accept()
-	os.Stdout.WriteString("\\n")
-	time.Sleep(time.Minute)
-}
-"""
-
-
 @pytest.mark.long
 @pytest.mark.skipif(not is_here("1.27"), reason="Go 1.27 isn't here (python3 python dev.recorder.fetching 1.27)")
 def test_a_server_is_recorded_among_another_user_s_files(shared: Shared, cleanups: ExitStack) -> None:
     shared.go = chosen("1.27")
-    (shared.own / "main.go").write_text(SERVER)
-    built = quiet_go(shared.go, shared.own, "build", "-overlay", str(overlay(shared.go)), "-o", "server", "main.go")
+    words = ("build", "-overlay", str(overlay(shared.go)), "-o", "server", str(SAMPLES / "load/main.go"))
+    built = quiet_go(shared.go, shared.own, *words)
     assert built.returncode == 0, built.stderr
     status = (shared.own / "server").stat()
     program = f"server.program.{status.st_ino}.{status.st_mtime_ns}"
     by_other(f"mkfifo {program}", shared.folder)
     settings = {"NETREV_LOG": f"{shared.folder}/server", "NETREV_POINTS": "16384"}
-    running = subprocess.Popen([shared.own / "server"], env=os.environ | settings, stdout=subprocess.PIPE)
-    cleanups.enter_context(running)
+    running = cleanups.enter_context(
+        subprocess.Popen([shared.own / "server", "8", "1000000000", "500"], env=os.environ | settings)
+    )
     cleanups.callback(running.kill)
-    assert running.stdout and running.stdout.readline()
+    wait_until(lambda: len(os.listdir(f"/proc/{running.pid}/fd")) > 8)
     tests = f"server.{running.pid}.tests"
     by_other(f"cp own/{TESTS} {tests}", shared.folder)
     ended, lines = shared.call("-o", "own/x", "snapshot", str(running.pid))
