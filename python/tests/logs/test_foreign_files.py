@@ -133,7 +133,7 @@ def is_planted(folder: Path) -> bool:
 def test_a_file_beside_a_log_has_to_be_its_owner_s(name: str, trick: str, why: str, shared: Shared) -> None:
     shared.has(LOG)
     shared.tried(trick, name)
-    status, lines = shared.call("-o", "own/x", "convert", LOG)
+    status, lines = shared.call("-o", "own/x", "convert", LOG, LOG)
     assert [line for line in lines if name in line] == [f"netrev-go: {name} isn't used: {why}"], lines
     assert (status, (shared.own / "x.jsonl").read_text()) == (0, WHOLE.read_text())
     assert not is_planted(shared.own)
