@@ -4,7 +4,6 @@ from __future__ import annotations
 
 import argparse
 import gc
-import os
 import pathlib
 import shlex
 import subprocess
@@ -16,15 +15,7 @@ from netrev.system.command_lines import command
 from .doctor import doctor
 from .go_command.outputs import base_name, look, numbered
 from .go_command.run_folders import claim, own_folder
-from .go_command.running import (  # fmt: skip
-    GoRunner,
-    limits_of,
-    log_of_process,
-    logs_folder,
-    places,
-    relative_to_folder,
-    shell_status,
-)
+from .go_command.running import GoRunner, limits_of, log_of_process, logs_folder, relative_to_folder, shell_status
 from .go_command.status import ExitStatus
 from .go_command.terminal import complain, say
 from .go_command.toolchain import Go, RecorderError, find_go
@@ -133,9 +124,8 @@ def env(go: Go) -> int:
     path = str(ready(go))
     if any(c.isspace() for c in path):
         raise RecorderError(messages.SPACE_IN_PATH.format(path=path))
-    folder = own_folder(next(filter(os.path.isdir, places()), places()[-1]))
     print(f"export GOFLAGS={shlex.quote(f'{go.flags} -overlay={path} -count=1'.strip())}")
-    print(f"export NETREV_LOG={shlex.quote(f'{folder}/log')}")
+    print(f"export NETREV_LOG={shlex.quote(f'{own_folder()}/log')}")
     return ExitStatus.DONE
 
 

@@ -32,18 +32,13 @@ def named(run: LeftRun) -> str:
 
 def name_kept() -> None:
     """Prints one line if logs are kept, with the commands that convert and delete them."""
-    runs = left_runs(KEPT)
-    if not runs:
-        return
-    last = named(runs[-1])
-    complain(
-        messages.LOGS_ARE_KEPT.format(
-            runs=last if len(runs) == 1 else messages.SEVERAL_RUNS.format(count=len(runs), last=last),
-            netrev_go=command("netrev-go"),
-            logs=" ".join(words_for(run.folder, logs_in(run.folder)) for run in runs),
-            folders=shlex.join(str(outermost(run.folder)) for run in runs),
-        )
-    )
+    if runs := left_runs(KEPT):
+        last = named(runs[-1])
+        what = last if len(runs) == 1 else messages.SEVERAL_RUNS.format(count=len(runs), last=last)
+        logs = " ".join(words_for(run.folder, logs_in(run.folder)) for run in runs)
+        folders = shlex.join(str(outermost(run.folder)) for run in runs)
+        words = {"runs": what, "netrev_go": command("netrev-go"), "logs": logs, "folders": folders}
+        complain(messages.LOGS_ARE_KEPT.format(**words))
 
 
 def offer() -> None:

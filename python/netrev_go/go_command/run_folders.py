@@ -71,9 +71,9 @@ def claim(folder: pathlib.Path) -> pathlib.Path:
     return folder
 
 
-def own_folder(place: str) -> pathlib.Path:
+def own_folder() -> pathlib.Path:
     """This user's folder for the logs of a shell."""
-    folder = pathlib.Path(place, f"netrev-{os.geteuid()}")
+    folder = pathlib.Path(next(filter(os.path.isdir, places()), places()[-1]), f"netrev-{os.geteuid()}")
     try:
         folder.mkdir(0o700, exist_ok=True)
         check_owner(folder)

@@ -16,7 +16,7 @@ from netrev_go.log.logfile import HEADER_BYTES, NotALogError, read_log
 from netrev_go.log.points import Log, Point, PointKind
 from netrev_go.log.source_lines import Calls, LineCall, SourceRoots, lines_of, looked_up
 from netrev_go.steps import conversion
-from netrev_go.steps.conversion import RecordingOptions, convert
+from netrev_go.steps.conversion import RecordingOptions, convert, read_whole
 from netrev_go.steps.recording_builder import NothingRecordedError, UnconvertibleError, make, write
 from netrev_go.steps.report import Conversion, next_line, wait_of
 from netrev_go.steps.where import own_line, write_where
@@ -195,11 +195,11 @@ def test_a_copy_that_a_program_couldn_t_make_says_why(folder: pathlib.Path) -> N
     copy.with_name(copy.name + ".failed.028").touch()
     copy.with_name("log.2.snapshot.failed.005").touch()
     with pytest.raises(NotALogError, match="couldn't copy its log: No space left on device"):
-        read_log(copy)
+        read_whole(copy)
     with pytest.raises(NotALogError, match="can't be read: No such file"):
-        read_log(copy.with_name("log.3.snapshot"))
+        read_whole(copy.with_name("log.3.snapshot"))
     copy.write_bytes(binary(opened(2)))
-    assert len(read_log(copy).points) == 4
+    assert len(read_whole(copy).log.points) == 4
 
 
 def test_a_log_that_is_cut_short_gives_what_is_whole() -> None:
