@@ -1,5 +1,5 @@
-"""Folders of the user's cache whose files netrev-go makes once. Checksums lie beside the files, so that files
-that were damaged, for instance by a power cut, are made anew."""
+"""Folders of the user's cache whose files netrev-go makes once. Checksums lie beside the files, so that damaged files, for
+instance after a power cut, are made anew."""
 
 from __future__ import annotations
 

@@ -25,7 +25,7 @@ from netrev.text.files import whole
 from netrev_go import cli, recordings
 from netrev_go.cli import ExitStatus
 from netrev_go.go_command.outputs import base_name, look
-from netrev_go.go_command.running import SIGNALS, logs_in
+from netrev_go.go_command.running import SIGNALS
 from netrev_go.go_command.toolchain import Go, RecorderError
 from netrev_go.log.points import Log, PointKind
 from netrev_go.steps import recording_builder, report
