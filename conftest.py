@@ -1,5 +1,6 @@
 """pytest's settings for these tests: options, fixtures, the order of the tests, and the list of skipped tests."""
 
+import os
 import random
 import signal
 import tempfile
@@ -85,6 +86,14 @@ def logs_of_their_own() -> Iterator[None]:
     """In these tests, netrev-go puts logs into a new folder, so that it doesn't offer logs of other runs."""
     with tempfile.TemporaryDirectory(prefix="netrev-logs-") as name, pytest.MonkeyPatch.context() as patch:
         patch.setenv("NETREV_LOGS", name)
+        yield
+
+
+@pytest.fixture(autouse=True)
+def logs_of_this_test(logs_of_their_own: None, monkeypatch: pytest.MonkeyPatch) -> Iterator[None]:
+    """Nor does it name logs that another test kept."""
+    with tempfile.TemporaryDirectory(dir=os.environ["NETREV_LOGS"], ignore_cleanup_errors=True) as name:
+        monkeypatch.setenv("NETREV_LOGS", name)
         yield
 
 

@@ -15,13 +15,14 @@ from netrev.system.command_lines import command
 from .doctor import doctor
 from .go_command.outputs import base_name, look, numbered
 from .go_command.process_logs import ProcessLog, log_of_process
-from .go_command.run_folders import claim
+from .go_command.run_folders import claim, own_folder
 from .go_command.running import GoRunner, limits_of, logs_folder, relative_to_folder, shell_status
 from .go_command.status import ExitStatus
+from .go_command.terminal import complain, say
 from .go_command.toolchain import Go, RecorderError, find_go
 from .go_test import record_tests
 from .options import POSSIBLE, SUSPECTS, asks_for_help, check, help_of, of_a_process, parser
-from .recordings import RecordingMaker, ReportPrinter, complain, say, unwritten
+from .recordings import RecordingMaker, ReportPrinter, unwritten
 from .recovery import offer, recover
 from .release_check import ready
 from .snapshots import snapshot, watch
@@ -102,9 +103,8 @@ def convert_log(options: argparse.Namespace) -> int:
         KNOWN.clear()
         wish, saying = wish_of(options), ReportPrinter(log.head(), stream=sys.stdout)
         name = numbered(base, index, options.o is not None, more_endings(wish))
-        is_written = index > written and not log.fault
         try:
-            outcome = convert(log.path, name, go, wish, KNOWN, saying.hear, is_written)
+            outcome = convert(log.path, name, go, wish, KNOWN, saying.hear, options.pid if index > written else None)
         except OSError as fault:
             complain(unwritten(name, fault))
             status = ExitStatus.TROUBLE
@@ -126,9 +126,8 @@ def env(go: Go) -> int:
     path = str(ready(go))
     if any(c.isspace() for c in path):
         raise RecorderError(messages.SPACE_IN_PATH.format(path=path))
-    folder = pathlib.Path("/dev/shm" if pathlib.Path("/dev/shm").is_dir() else "/tmp")
     print(f"export GOFLAGS={shlex.quote(f'{go.flags} -overlay={path} -count=1'.strip())}")
-    print(f"export NETREV_LOG={folder}/mine")
+    print(f"export NETREV_LOG={shlex.quote(f'{own_folder()}/log')}")
     return ExitStatus.DONE
 
 
@@ -158,6 +157,10 @@ def main(arguments: list[str] | None = None) -> int:
     except RecorderError as trouble:
         complain(str(trouble))
         return ExitStatus.TROUBLE
+    except MemoryError:
+        KNOWN.clear()
+        complain(messages.OUT_OF_MEMORY)
+        return ExitStatus.REFUSED
     except KeyboardInterrupt:
         complain(messages.INTERRUPTED)
         return ExitStatus.INTERRUPTED

@@ -67,7 +67,7 @@ def can_write() -> bool:
         with tempfile.TemporaryFile(dir=cache()):
             pass
     except OSError as fault:
-        why = messages.CACHE_UNWRITABLE.format(folder=cache(), why=fault.strerror)
+        why = messages.CACHE_UNUSABLE.format(folder=cache(), why=fault.strerror)
         print(messages.CACHE_MISSING.format(why=why))
         return False
     print(messages.CACHE.format(folder=cache()))

@@ -34,9 +34,10 @@ from .go_command.running import (  # fmt: skip
     still_written,
     stop_at_once,
 )
+from .go_command.terminal import complain, say
 from .go_command.toolchain import Go
 from .go_test_results import Recordings
-from .recordings import RecordingMaker, complain, leave, report_no_log, report_unrecorded, say
+from .recordings import RecordingMaker, leave, report_no_log, report_unrecorded
 from .steps import forms
 from .steps.conversion import RecordingOptions
 
@@ -183,7 +184,7 @@ class GoRun:
     def _take(self, folder: pathlib.Path, failed: bool) -> bool:
         """Makes the recordings; returns whether the logs can be removed."""
         self.has_recorded = not report_unrecorded(folder)
-        if report_no_log(folder, failed):
+        if report_no_log(folder):
             self.is_last, self.has_recorded = True, False
             return True
         before, self._recordings.all_recorded = self._recordings.all_recorded, True

@@ -23,11 +23,12 @@ from netrev.text.plain import plain
 from .go_command.build_errors import NO_PACKAGE, unbuilt_in
 from .go_command.outputs import LONGEST_ENDING, PAGE, numbered, of_test
 from .go_command.running import logs_in, shell_status
+from .go_command.terminal import complain, say
 from .go_command.toolchain import Go
-from .log.logfile import NotALogError, read_log
+from .log.logfile import NotALogError
 from .log.tests_in_log import Ran, Tests, of_log
-from .recordings import ReportPrinter, complain, say, unwritten
-from .steps.conversion import ReadLog, RecordingOptions, converted, more_endings
+from .recordings import ReportPrinter, unwritten
+from .steps.conversion import ReadLog, RecordingOptions, converted, more_endings, read_whole
 from .steps.forms import TestResult, unbuilt
 from .steps.report import Conversion, Hear, unheard
 
@@ -153,10 +154,10 @@ class Recordings:
 
     def read(self, log: pathlib.Path, tests: Tests) -> ReadLog | None:
         try:
-            return ReadLog(log, read_log(log), tests)
-        except NotALogError as fault:
+            return read_whole(log, tests=tests)
+        except (NotALogError, MemoryError) as fault:
             self.all_recorded = False
-            complain(f"{log}: {fault}")
+            complain(f"{log}: {str(fault) or messages.OUT_OF_MEMORY}")
             return None
 
     def made(self, read: ReadLog | None, name: pathlib.Path, test: Ran | None, hear: Hear) -> Conversion | None:
@@ -168,7 +169,7 @@ class Recordings:
         try:
             name.parent.mkdir(parents=True, exist_ok=True)
             outcome = converted(read, name, self._go, replace(self._wish, failed=failed), test, hear=hear)
-        except OSError as fault:
+        except (OSError, MemoryError) as fault:
             complain(unwritten(name, fault))
             self.all_recorded, self.trouble = False, True
             return None

@@ -2,10 +2,8 @@
 
 from __future__ import annotations
 
-import os
 import pathlib
 import shlex
-import sys
 from dataclasses import replace
 from typing import TextIO
 
@@ -17,23 +15,10 @@ from netrev.text.plurals import counted
 from .go_command.outputs import numbered
 from .go_command.run_folders import release, remove, unrecorded
 from .go_command.running import LOGS, logs_in, process_of, still_written
+from .go_command.terminal import complain, say
 from .go_command.toolchain import Go
 from .log.tests_in_log import forget
 from .steps.conversion import RecordingOptions, convert, more_endings
-
-
-def say(lines: list[str], stream: TextIO | None = None) -> None:
-    """Prints these lines to standard error, because standard output belongs to Go and the program, or to another
-    stream. If printing fails, later lines are dropped and everything else continues."""
-    to = stream or sys.stderr
-    try:
-        print("\n".join(lines), file=to, flush=True)
-    except OSError:
-        nowhere = open(os.devnull, "w", encoding="utf-8")
-        if to is sys.stdout:
-            sys.stdout = nowhere
-        else:
-            sys.stderr = nowhere
 
 
 class ReportPrinter:
@@ -55,30 +40,31 @@ class ReportPrinter:
         self.hear(lines[self._count :])
 
 
-def complain(text: str) -> None:
-    """Prints an error."""
-    say(["netrev-go: " + "\n".join(plain(line) for line in text.split("\n"))])
+def words_for(folder: pathlib.Path, logs: list[pathlib.Path]) -> str:
+    """The logs of a folder, for a shell."""
+    return shlex.quote(str(logs[0])) if len(logs) == 1 else f"{shlex.quote(str(folder))}/{LOGS}"
 
 
 def convert_hint(folder: pathlib.Path, logs: list[pathlib.Path]) -> str:
     """A hint on how to convert the kept logs."""
-    again = shlex.quote(str(logs[0])) if len(logs) == 1 else f"{shlex.quote(str(folder))}/{LOGS}"
-    return messages.NOTHING_IS_LOST.format(netrev_go=command("netrev-go"), logs=again)
+    return messages.NOTHING_IS_LOST.format(netrev_go=command("netrev-go"), logs=words_for(folder, logs))
 
 
-def unwritten(name: pathlib.Path, fault: OSError) -> str:
+def unwritten(name: pathlib.Path, fault: OSError | MemoryError) -> str:
     """The reason why a recording is missing."""
+    if isinstance(fault, MemoryError):
+        return f"{name}: {messages.OUT_OF_MEMORY}"
     return f"{fault.filename or name}: {fault.strerror or fault}"
 
 
-def report_no_log(folder: pathlib.Path, failed: bool) -> bool:
+def report_no_log(folder: pathlib.Path) -> bool:
     """Prints why no log exists; returns whether none exists."""
     if logs_in(folder):
         return False
     if not folder.is_dir():
         complain(messages.LOGS_ARE_GONE.format(folder=folder))
     elif not unrecorded(folder):
-        complain(messages.GO_FAILED if failed else messages.NOTHING_RAN)
+        complain(messages.NOTHING_RAN)
     return True
 
 
@@ -95,7 +81,7 @@ def leave(folder: pathlib.Path, keep: bool, is_whole: bool, running: list[pathli
     running."""
     logs = logs_in(folder)
     if keep or logs and not is_whole:
-        release(folder)
+        release(folder, not keep)
         say([messages.LOGS_ARE_IN.format(folder=plain(str(folder)))])
         if logs and not is_whole:
             complain(convert_hint(folder, logs))
@@ -142,7 +128,7 @@ class RecordingMaker:
         """Makes recordings after the program has ended."""
         self.trouble = False
         self._running = still_written(self._folder)
-        if report_no_log(self._folder, failed):
+        if report_no_log(self._folder):
             self.trouble = not self._folder.is_dir()
         else:
             wish = replace(self._wish, failed=failed)

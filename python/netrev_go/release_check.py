@@ -20,9 +20,9 @@ from netrev.text.plain import plain
 
 from .go_command.line_reader import prepare_line_reader
 from .go_command.running import LOG
+from .go_command.terminal import say
 from .go_command.toolchain import SOURCES, Go, RecorderError, is_tried, left_out, overlay, quiet_go, tried
 from .log.logfile import NotALogError, read_log
-from .recordings import say
 from .steps.analysis import check
 from .steps.compare import DIFFERS, by_the_model, differing
 from .steps.recording_builder import NewRecording, NothingRecordedError, UnconvertibleError, make, write, write_words

@@ -4,6 +4,7 @@ of the log say which goroutines wait on sockets, and since when, so frequent che
 from __future__ import annotations
 
 import argparse
+import os
 import pathlib
 import time
 from array import array
@@ -14,17 +15,19 @@ from typing import BinaryIO, NamedTuple
 from netrev.messages import recorder as messages
 from netrev.text.plain import plain
 
-from .go_command.line_reader import line_reader
 from .go_command.outputs import base_name, look, numbered
 from .go_command.process_logs import ProcessEndedError, ProcessLog, log_of_process, mapped_log, start_of
 from .go_command.status import ExitStatus
+from .go_command.terminal import complain, say
 from .go_command.toolchain import Go, RecorderError
+from .go_command.trusted_files import opened_log
 from .log.logfile import HEADER_BYTES, ROW_WORDS, WAITER_WORDS, WORD, Header, NotALogError, stack_at
 from .log.notes import PARKED
 from .log.points import Log
-from .log.source_lines import Calls, SourceRoots, lines_of
-from .recordings import ReportPrinter, complain, say, unwritten
-from .steps.conversion import RecordingOptions, convert, more_endings, program_of
+from .log.source_lines import Calls
+from .log.tests_in_log import Tests
+from .recordings import ReportPrinter, unwritten
+from .steps.conversion import ReadLog, RecordingOptions, calls_of, convert, more_endings
 from .steps.report import line_of
 from .steps.where import own_line
 
@@ -88,9 +91,8 @@ class Watch:
             found = None
             if stack and self._go and (addresses := stack_at(self._file, stack)):
                 log = Log([], {stack: addresses}, text=self._header.text, program=self._header.program)
-                program = program_of(self._log, log.program)
-                roots = SourceRoots(self._go.sources(), pathlib.Path.cwd())
-                found = lines_of(log, {stack}, program, line_reader(self._go), roots).get(stack)
+                owner = os.fstat(self._file.fileno()).st_uid
+                found = calls_of(ReadLog(self._log, log, Tests(), owner), {stack}, self._go).get(stack)
             self._calls[stack] = found
         return self._calls[stack]
 
@@ -141,7 +143,7 @@ def record_now(
     base, saying = base_name(options.o, "snapshot"), ReportPrinter(log.head())
     name = numbered(base, 1, options.o is not None, more_endings(recording_options))
     try:
-        outcome = convert(log.path, name, go, recording_options, known, saying.hear, not log.fault)
+        outcome = convert(log.path, name, go, recording_options, known, saying.hear, options.pid)
     except OSError as fault:
         complain(unwritten(name, fault))
         return ExitStatus.TROUBLE
@@ -177,7 +179,7 @@ def first_stuck(options: argparse.Namespace, log: ProcessLog, go: Go | None) -> 
     use this log any more."""
     pause = min(max(options.stuck / LOOKS, OFTENEST), SELDOMEST)
     try:
-        with log.path.open("rb", buffering=0) as file:
+        with opened_log(log.path, options.pid, 0) as file:
             header = Header(file.read(HEADER_BYTES))
             if not header.rows:
                 raise RecorderError(messages.NO_TABLE.format(log=plain(str(log.path))))

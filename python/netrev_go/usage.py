@@ -56,7 +56,8 @@ USAGES = {
         "netrev-go build [GO'S FLAGS] [PACKAGES]",
         "Builds a program as `go build` does. The program records when NETREV_LOG=PATH is set; its log is PATH.PID.",
         "Build a server, record it, and make a recording while it runs:\n\n"
-        "  netrev-go build -o serve .\n  NETREV_LOG=/dev/shm/serve ./serve &\n  netrev-go -o serve --pid $! convert",
+        "  netrev-go build -o serve .\n  mkdir -m 700 /dev/shm/serve\n  NETREV_LOG=/dev/shm/serve/log ./serve &\n"
+        "  netrev-go -o serve --pid $! convert",
         (),
         "`go help build` describes Go's own flags.",
     ),

@@ -27,12 +27,13 @@ def beside(path: Path) -> Path:
 
 
 @contextmanager
-def whole(path: Path, mode: str = "w") -> Iterator[IO[Any]]:
+def whole(path: Path, mode: str = "w", permissions: int = 0o666) -> Iterator[IO[Any]]:
     """A file to write to, which replaces the old file at the end; raises an OSError that names the file if it can't be
-    written. A path that isn't a regular file, such as a pipe or /dev/stdout, is written to directly. A link is followed
-    unless it belongs to another user."""
+    written. It keeps the permissions of this user's file, and has otherwise these permissions, as far as the umask
+    allows. A path that isn't a regular file, such as a pipe or /dev/stdout, is written to directly. Links and pipes of
+    another user aren't used."""
     try:
-        with replacing(path, mode) as file:
+        with replacing(path, mode, permissions) as file:
             yield file
     except OSError as fault:
         raise named(fault, path) from None
@@ -44,11 +45,13 @@ def named(fault: OSError, path: Path) -> OSError:
 
 
 @contextmanager
-def replacing(path: Path, mode: str) -> Iterator[IO[Any]]:
+def replacing(path: Path, mode: str, permissions: int) -> Iterator[IO[Any]]:
     """`whole`, with the errors as they come."""
     check_name(path)
     check_links(path)
     if path.exists() and (path.parent in STREAMS or not path.is_file()):
+        if path.parent not in STREAMS and path.stat().st_uid not in (os.geteuid(), 0):
+            raise OSError(errno.EACCES, "another user's, which isn't written to")
         with open_for(path, mode) as direct:
             yield direct
         return
@@ -57,7 +60,9 @@ def replacing(path: Path, mode: str) -> Iterator[IO[Any]]:
         raise PermissionError(errno.EACCES, os.strerror(errno.EACCES))
     part = beside(place)
     try:
-        with open_for(part, mode.replace("w", "x")) as file:
+        with open_for(part, mode.replace("w", "x"), permissions) as file:
+            if (own := permissions_of(place)) is not None:
+                os.fchmod(file.fileno(), own)
             yield file
         os.replace(part, place)
     except BaseException:
@@ -88,9 +93,22 @@ def check_links(path: Path) -> None:
     raise OSError(errno.ELOOP, os.strerror(errno.ELOOP), str(path))
 
 
-def open_for(path: Path, mode: str) -> IO[Any]:
+def permissions_of(path: Path) -> int | None:
+    """The permissions of this user's file; None if it is missing, a link, or another user's."""
+    with suppress(OSError):
+        status = path.lstat()
+        if stat.S_ISREG(status.st_mode) and status.st_uid == os.geteuid():
+            return stat.S_IMODE(status.st_mode)
+    return None
+
+
+def open_for(path: Path, mode: str, permissions: int = 0o666) -> IO[Any]:
     """Opens a file for text in UTF-8, or for bytes."""
-    return open(path, mode, encoding=None if "b" in mode else "utf-8")
+
+    def opener(name: str, flags: int) -> int:
+        return os.open(name, flags, permissions)
+
+    return open(path, mode, encoding=None if "b" in mode else "utf-8", opener=opener)
 
 
 def unused(base: Path, endings: Mapping[str, Owns], number: int = 1) -> Path:
@@ -144,18 +162,18 @@ def forget_where(path: Path) -> None:
         path.unlink()
 
 
-def written_whole(path: Path, data: bytes) -> None:
+def written_whole(path: Path, data: bytes, permissions: int = 0o666) -> None:
     """Writes these bytes; raises an OSError that names the file if that fails."""
-    written_together({path: data})
+    written_together({path: data}, permissions)
 
 
-def written_together(contents: Mapping[Path, bytes]) -> None:
+def written_together(contents: Mapping[Path, bytes], permissions: int = 0o666) -> None:
     """Writes several files: all or, if one can't be written, none. Raises an OSError that names that file."""
     path = Path()
     try:
         with ExitStack() as files:
             for path, data in contents.items():
-                file = files.enter_context(replacing(path, "wb"))
+                file = files.enter_context(replacing(path, "wb", permissions))
                 file.write(data)
                 file.flush()
     except OSError as fault:

@@ -4,14 +4,15 @@ program on first use, so netrev-go builds it once for each release, before the f
 from __future__ import annotations
 
 import contextlib
-import fcntl
 import hashlib
 import pathlib
 import re
 
 from netrev.messages import recorder as messages
 
+from .cached_files import is_whole, made_once
 from .toolchain import Go, RecorderError, cache, quiet_go
+from .trusted_files import UntrustedFileError
 
 NAME = "addr2line"
 PACKAGE = "cmd/addr2line"
@@ -31,9 +32,11 @@ def kept(go: Go) -> pathlib.Path:
 def line_reader(go: Go) -> list[str]:
     """The command that reads lines: Go's own program, or the program that netrev-go built; if neither exists, `go tool`
     builds it now."""
-    for path in (shipped(go), kept(go)):
-        if path.exists():
-            return [str(path)]
+    if shipped(go).exists():
+        return [str(shipped(go))]
+    with contextlib.suppress(UntrustedFileError):
+        if is_whole(kept(go).parent):
+            return [str(kept(go))]
     return [go.program, "tool", NAME]
 
 
@@ -42,20 +45,21 @@ def build_line_reader(go: Go) -> pathlib.Path:
     if shipped(go).exists():
         return shipped(go)
     program = kept(go)
+
+    def build() -> list[str]:
+        part = program.with_name("part")
+        run = quiet_go(go, program.parent, "build", "-o", str(part), PACKAGE)
+        if run.returncode != 0:
+            raise RecorderError(messages.READER_NOT_BUILT.format(package=PACKAGE, why=run.stderr.strip()[-600:]))
+        part.rename(program)
+        return [NAME]
+
     try:
-        program.parent.mkdir(parents=True, exist_ok=True)
-        with (program.parent / "lock").open("w") as lock:
-            fcntl.flock(lock, fcntl.LOCK_EX)
-            if not program.exists():  # no other process has built it meanwhile
-                part = program.with_name("part")
-                run = quiet_go(go, program.parent, "build", "-o", str(part), PACKAGE)
-                if run.returncode != 0:
-                    raise RecorderError(
-                        messages.READER_NOT_BUILT.format(package=PACKAGE, why=run.stderr.strip()[-600:])
-                    )
-                part.rename(program)
+        made_once(program.parent, build)
     except OSError as fault:
-        raise RecorderError(messages.READER_UNWRITABLE.format(folder=program.parent, why=fault.strerror)) from None
+        raise RecorderError(
+            messages.READER_UNUSABLE.format(folder=fault.filename or program.parent, why=fault.strerror)
+        ) from None
     return program
 
 

@@ -17,6 +17,7 @@ from netrev.text.plain import plain
 from .run_folders import WHY
 from .running import Mapping, mappings
 from .toolchain import RecorderError
+from .trusted_files import opened_log
 
 STARTING = 1.0  # seconds within which a program that was just started makes its log
 REMOVED = " (deleted)"
@@ -45,7 +46,7 @@ def log_of_process(process: int) -> ProcessLog:
     until = time.monotonic() + STARTING
     while True:
         log = mapped_log(process)
-        if log and has_begun(log.path):
+        if log and has_begun(log.path, process):
             return log
         if time.monotonic() > until:
             break
@@ -139,10 +140,10 @@ def status_of(path: pathlib.Path) -> os.stat_result | None:
     return None
 
 
-def has_begun(log: pathlib.Path) -> bool:
+def has_begun(log: pathlib.Path, process: int) -> bool:
     """Whether a log has its header. A log that can't be read counts as begun, and its reader reports the reason."""
     try:
-        with log.open("rb") as file:
+        with opened_log(log, process) as file:
             return any(file.read(8))
     except OSError:
         return True

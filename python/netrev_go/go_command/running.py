@@ -20,6 +20,7 @@ from netrev.messages import recorder as messages
 
 from .build_errors import CopiedErrors
 from .toolchain import RecorderError
+from .trusted_files import opened_log
 
 MOST_POINTS = 2**20
 POINT_BYTES, STACK_BYTES, SPARE = 64, 4 * 2**20, 64 * 2**20
@@ -83,7 +84,7 @@ def logs_in(folder: pathlib.Path) -> list[pathlib.Path]:
     """The logs of a folder, in the order in which their processes began; none if the folder is gone."""
     try:
         logs = [path for path in folder.iterdir() if LOG.match(path.name)]
-        return sorted(logs, key=lambda path: path.stat().st_ino)
+        return sorted(logs, key=lambda path: path.lstat().st_ino)
     except FileNotFoundError:
         return []
 

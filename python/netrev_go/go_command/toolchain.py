@@ -3,7 +3,6 @@ user's cache."""
 
 from __future__ import annotations
 
-import fcntl
 import hashlib
 import json
 import os
@@ -17,6 +16,8 @@ from dataclasses import dataclass
 from netrev.errors import NetrevError
 from netrev.messages import recorder as messages
 from netrev.system.command_lines import command
+
+from .cached_files import made_once
 
 SOURCES = pathlib.Path(__file__).resolve().parents[1] / "go"
 OVERLAY, NEW, LEFT_OUT = "overlay.json", "new.json", "without.txt"
@@ -135,17 +136,15 @@ def fit(go: Go) -> tuple[bool, list[str]]:
 
 
 def overlay(go: Go) -> pathlib.Path:
-    """The overlay for this Go, which is made if it doesn't exist. It exists only after Go has compiled it."""
+    """The overlay for this Go, which is made if it doesn't exist or is damaged. It exists only after Go has compiled
+    it."""
     folder = cache() / key_of(go)
-    if not (folder / OVERLAY).exists():
-        try:
-            folder.mkdir(parents=True, exist_ok=True)
-            with (folder / "lock").open("w") as lock:
-                fcntl.flock(lock, fcntl.LOCK_EX)
-                if not (folder / OVERLAY).exists():  # no other process has made it meanwhile
-                    make_overlay(go, folder)
-        except OSError as fault:
-            raise RecorderError(messages.CACHE_UNWRITABLE.format(folder=folder, why=fault.strerror)) from None
+    try:
+        made_once(folder, lambda: make_overlay(go, folder))
+    except OSError as fault:
+        raise RecorderError(
+            messages.CACHE_UNUSABLE.format(folder=fault.filename or folder, why=fault.strerror)
+        ) from None
     return folder / OVERLAY
 
 
@@ -154,7 +153,8 @@ def left_out(go: Go) -> list[str]:
     return (overlay(go).parent / LEFT_OUT).read_text().splitlines()
 
 
-def make_overlay(go: Go, folder: pathlib.Path) -> None:
+def make_overlay(go: Go, folder: pathlib.Path) -> list[str]:
+    """Makes the overlay, and returns the names of its files."""
     program = points_program(go, folder)
     run = subprocess.run(
         [program, "overlay", go.sources(), SOURCES / "log", folder], capture_output=True, text=True, check=False
@@ -170,4 +170,6 @@ def make_overlay(go: Go, folder: pathlib.Path) -> None:
     if compiled.returncode != 0:
         raise RecorderError(messages.DOES_NOT_COMPILE.format(**words, why=compiled.stderr.strip()))
     (folder / LEFT_OUT).write_text("".join(f"{line}\n" for line in lines if line.startswith(WITHOUT)))
+    replaced = json.loads((folder / NEW).read_text())["Replace"].values()
     (folder / NEW).rename(folder / OVERLAY)
+    return [OVERLAY, LEFT_OUT, *{path.name for path in map(pathlib.Path, replaced) if path.parent == folder}]

@@ -3,7 +3,6 @@ killed or is still running. Complete points are used, and notes say what is miss
 
 from __future__ import annotations
 
-import contextlib
 import io
 import os
 import pathlib
@@ -266,17 +265,7 @@ def read_log(path: pathlib.Path, is_written: bool = False) -> Log:
         with path.open("rb") as file:
             return log_of(copy_of(file), is_written) if is_written else log_of(file)
     except OSError as fault:
-        raise NotALogError(uncopied(path) or messages.UNREADABLE.format(why=fault.strerror)) from None
-
-
-def uncopied(path: pathlib.Path) -> str:
-    """Why a program couldn't copy its log to this path; empty if it did, or didn't try."""
-    with contextlib.suppress(OSError):
-        for name in sorted(os.listdir(path.parent)):
-            number = name.removeprefix(path.name + ".failed.")
-            if number != name and number.isdecimal():
-                return messages.UNCOPIED.format(why=os.strerror(int(number)))
-    return ""
+        raise NotALogError(messages.UNREADABLE.format(why=fault.strerror)) from None
 
 
 def copy_of(file: BinaryIO) -> BinaryIO:

@@ -8,7 +8,7 @@ import pathlib
 import struct
 import subprocess
 from collections.abc import Iterable
-from typing import NamedTuple
+from typing import IO, NamedTuple
 
 from .points import Log, PointStack
 
@@ -34,32 +34,39 @@ class Calls(NamedTuple):
     made: LineCall | None
 
 
-def shift(program: pathlib.Path, text: int) -> int | None:
+def read_at(program: IO[bytes], at: int, count: int) -> bytes:
+    """Bytes of a program; zeros after its end."""
+    found = os.pread(program.fileno(), count, at) if at < 2**62 else b""
+    return found.ljust(count, b"\0")
+
+
+def shift(program: IO[bytes], text: int) -> int | None:
     """The distance of the program's code from the addresses that `addr2line` expects: `addr2line` counts from the
     section .text, which may begin with C code, and a program may be loaded anywhere. None if the file has no such
     section."""
-    with program.open("rb") as file:
-        data = file.read()
-    if data[:4] != b"\x7fELF" or len(data) < ELF_HEADER:
+    header = read_at(program, 0, ELF_HEADER)
+    sections, size, count, names = struct.unpack_from("<Q10xHHH", header, 40)
+    if header[:4] != b"\x7fELF" or names >= count or size < 64:
         return None
-    sections, size, count, names = struct.unpack_from("<Q10xHHH", data, 40)
-    if sections + size * count > len(data) or names >= count or size < 64:
-        return None
-    (strings,) = struct.unpack_from("<Q", data, sections + size * names + 24)
+    (strings,) = struct.unpack("<Q", read_at(program, sections + size * names + 24, 8))
     for at in range(sections, sections + size * count, size):
-        name, address = struct.unpack_from("<I12xQ", data, at)
-        if data[strings + name : strings + name + 6] == b".text\0":
+        name, address = struct.unpack("<I12xQ", read_at(program, at, 24))
+        if read_at(program, strings + name, 6) == b".text\0":
             return text - int(address)
     return None
 
 
 def looked_up(
-    program: pathlib.Path, reader: list[str], addresses: Iterable[int], moved: int
+    program: IO[bytes], reader: list[str], addresses: Iterable[int], moved: int
 ) -> dict[int, tuple[str, str, int]]:
-    """The function, the file and the line at each address, by the command that reads lines."""
+    """The function, the file and the line at each address, by the command that reads lines. The command reads the open
+    file, whatever has its name by now."""
     wanted = sorted(set(addresses))
     text = "".join(f"{address - moved:#x}\n" for address in wanted if address >= moved)
-    run = subprocess.run([*reader, program], input=text, capture_output=True, text=True, check=False, errors="replace")
+    run = subprocess.run(
+        [*reader, f"/proc/self/fd/{program.fileno()}"], input=text, capture_output=True, text=True, check=False,
+        errors="replace", pass_fds=[program.fileno()],
+    )  # fmt: skip
     output = run.stdout.split("\n")
     found = {}
     for address, function, place in zip((a for a in wanted if a >= moved), output[0::2], output[1::2]):
@@ -124,16 +131,13 @@ def outside_the_runtime(calls: list[LineCall]) -> tuple[LineCall, ...]:
 
 
 def lines_of(
-    log: Log, used: set[int], program: pathlib.Path, reader: list[str], roots: SourceRoots
+    log: Log, used: set[int], program: IO[bytes] | None, reader: list[str], roots: SourceRoots
 ) -> dict[int, Calls]:
     """The calls of the used stacks, found by the `reader` command; empty if the program is missing or has no line
     table."""
     stacks: dict[int, PointStack] = {number: log.stacks[number] for number in used if number in log.stacks}
-    try:
-        moved = shift(program, log.text)
-    except OSError:
-        return {}
-    if moved is None:
+    moved = shift(program, log.text) if program else None
+    if program is None or moved is None:
         return {}
     behind = {address for stack in stacks.values() for address in (*stack.calls, stack.made) if address}
     found = looked_up(program, reader, (address - 1 for address in behind), moved)

@@ -2,11 +2,15 @@
 
 from __future__ import annotations
 
+import os
 import pathlib
 from collections.abc import Iterator
+from contextlib import suppress
 from dataclasses import dataclass, field
 from enum import Enum
 from typing import BinaryIO
+
+from netrev_go.go_command.trusted_files import opened_beside
 
 ENDING = ".tests"
 MOST_BYTES = 2**26
@@ -113,14 +117,15 @@ def forget(log: pathlib.Path) -> None:
         path.unlink(missing_ok=True)
 
 
-def of_log(log: pathlib.Path) -> Tests:
-    """The tests of the process that wrote this log. A damaged line is ignored."""
+def of_log(log: pathlib.Path, owner: int | None = None) -> Tests:
+    """The tests of the process that wrote this log, which belongs to this user or to the given owner. A damaged line is
+    ignored."""
     tests = Tests()
-    try:
-        with log.with_name(log.name + ENDING).open("rb") as file:
-            text = b"".join(written(file)).decode("utf-8", "replace")
-    except OSError:
+    found = opened_beside(log.with_name(log.name + ENDING), os.geteuid() if owner is None else owner, MOST_BYTES)
+    if found is None:
         return tests
+    with suppress(OSError), found as file:
+        text = b"".join(written(file)).decode("utf-8", "replace")
     for line in text.split("\n"):
         words = line.split(" ", 4)
         if (

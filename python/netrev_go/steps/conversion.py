@@ -2,10 +2,12 @@
 
 from __future__ import annotations
 
+import os
 import pathlib
 import re
 from bisect import bisect_left
-from dataclasses import dataclass
+from contextlib import nullcontext, suppress
+from dataclasses import dataclass, field
 from functools import partial
 
 from netrev.messages import recorder as messages
@@ -14,8 +16,9 @@ from netrev.text.plain import plain
 from netrev_go.go_command.line_reader import line_reader
 from netrev_go.go_command.outputs import LINES, WORDS
 from netrev_go.go_command.toolchain import Go
+from netrev_go.go_command.trusted_files import opened_beside, opened_log, owners_of
 from netrev_go.log.goroutines import Goroutines
-from netrev_go.log.logfile import NotALogError, read_log
+from netrev_go.log.logfile import NotALogError, copy_of, log_of
 from netrev_go.log.points import Log
 from netrev_go.log.sockets import MOST_MEGABYTES, MOST_SOCKETS
 from netrev_go.log.source_lines import Calls, SourceRoots, lines_of
@@ -37,6 +40,7 @@ from .scopes_of_tests import goroutines_of, sockets_of
 from .where import STEPS_A_LINE, write_where
 
 PROCESS = re.compile(r"(\.\d+){1,2}(\.snapshot)?\Z")
+FAILED_COPY = re.compile(r"\.failed\.([0-9]{3})")
 
 
 @dataclass(frozen=True)
@@ -63,11 +67,37 @@ def program_of(log: pathlib.Path, key: str) -> pathlib.Path:
 
 @dataclass
 class ReadLog:
-    """A log that is read once for the recordings of all its tests."""
+    """A log that is read once for the recordings of all its tests. Only its owner's files beside it are used, and new
+    recordings get its permissions."""
 
     path: pathlib.Path
     log: Log
     tests: Tests
+    owner: int = field(default_factory=os.geteuid)
+    permissions: int = 0o600
+
+
+def read_whole(path: pathlib.Path, process: int | None = None, tests: Tests | None = None) -> ReadLog:
+    """Reads a log of this user, or the log that a process is writing, which is copied first. `tests` are its tests if
+    they are known. Raises NotALogError."""
+    try:
+        with opened_log(path, process) as file:
+            status = os.fstat(file.fileno())
+            log = log_of(file) if process is None else log_of(copy_of(file), True)
+    except OSError as fault:
+        raise NotALogError(uncopied(path) or messages.UNREADABLE.format(why=fault.strerror)) from None
+    known = of_log(path, status.st_uid) if tests is None else tests
+    return ReadLog(path, log, known, status.st_uid, status.st_mode & 0o666 | 0o600)
+
+
+def uncopied(path: pathlib.Path) -> str:
+    """Why a program of this user couldn't copy its log to this path; empty if it did, or didn't try."""
+    with suppress(OSError), os.scandir(path.parent) as entries:
+        for entry in entries:
+            failed = FAILED_COPY.fullmatch(entry.name.removeprefix(path.name))
+            if failed and entry.stat(follow_symlinks=False).st_uid in owners_of():
+                return messages.UNCOPIED.format(why=os.strerror(int(failed[1])))
+    return ""
 
 
 def convert(
@@ -77,17 +107,15 @@ def convert(
     options: RecordingOptions,
     known: list[object] | None = None,
     hear: Hear = unheard,
-    is_written: bool = False,
+    process: int | None = None,
 ) -> Conversion:
     """Makes the recording NAME from a log, and NAME.where beside it if Go is installed to look up lines. `known` keeps
     the data, because freeing the data takes a long time. `hear` receives the report's lines as soon as they are known.
-    A log that a program is still writing is copied first."""
+    A log that a process is still writing is copied first."""
     try:
-        return converted(
-            ReadLog(log, read_log(log, is_written), of_log(log)), name, go, options, known=known, hear=hear
-        )
-    except NotALogError as fault:
-        return Conversion(False, [f"{plain(str(log))}: {fault}"])
+        return converted(read_whole(log, process), name, go, options, known=known, hear=hear)
+    except (NotALogError, MemoryError) as fault:
+        return Conversion(False, [f"{plain(str(log))}: {str(fault) or messages.OUT_OF_MEMORY}"])
 
 
 def converted(
@@ -115,29 +143,32 @@ def converted(
     found = recording.everybody
     if test is not None:
         found = goroutines_of(test, found, read.tests.ran, recording.numbers)
-    calls = {}
-    if go:
-        roots = SourceRoots(go.sources(), pathlib.Path.cwd())
-        used = set(recording.stacks) | found.stacks()
-        calls = lines_of(log, used, program_of(read.path, log.program), line_reader(go), roots)
+    calls = calls_of(read, set(recording.stacks) | found.stacks(), go) if go else {}
     has_lines = any(known.calls for known in calls.values())
     more = of_tests(recording, read.tests)
 
     def write_others() -> None:
         lines = name.with_suffix(LINES)
         if options.words:
-            write_words(recording, name.with_suffix(WORDS))
+            write_words(recording, name.with_suffix(WORDS), read.permissions)
         if not (has_lines or recording.orders is not None or more or recording.times):
             forget_where(lines)
             return
         everybody, tags = everybody_of(recording, found, calls), [{"tags": 1}] if recording.has_tags else []
         facts = recording.orders, recording.beside, [*more, *tags], recording.times, everybody
-        write_where(lines, recording.stacks, calls, *facts)
+        write_where(lines, recording.stacks, calls, *facts, permissions=read.permissions)
 
-    write(recording, name, write_others)
+    write(recording, name, write_others, read.permissions)
     if any(recording.stacks) and not has_lines:
         recording.notes.append(messages.NO_LINES)
     return report(recording, name, calls, options.failed, hear)
+
+
+def calls_of(read: ReadLog, used: set[int], go: Go) -> dict[int, Calls]:
+    """The calls of the used stacks, from the copy of the program beside the log."""
+    roots = SourceRoots(go.sources(), pathlib.Path.cwd())
+    with opened_beside(program_of(read.path, read.log.program), read.owner) or nullcontext() as program:
+        return lines_of(read.log, used, program, line_reader(go), roots)
 
 
 def everybody_of(recording: NewRecording, found: Goroutines, calls: dict[int, Calls]) -> Everybody | None:

@@ -242,10 +242,12 @@ class Fitted:
         return [pair for pair in self.found.points if pair[1] in kept]
 
 
-def write(recording: NewRecording, name: pathlib.Path, write_others: Callable[[], object] = bool) -> None:
+def write(
+    recording: NewRecording, name: pathlib.Path, write_others: Callable[[], object] = bool, permissions: int = 0o666
+) -> None:
     """Writes the recording atomically, after the call that writes the files beside it; raises an OSError that names the
     file if either fails. An earlier recording of that name then stays."""
-    with whole(name) as file:
+    with whole(name, permissions=permissions) as file:
         file.write(recording.header + "\n")
         for first in range(0, len(recording.lines), AT_ONCE):
             file.write("\n".join(map(str, recording.lines[first : first + AT_ONCE])) + "\n")
@@ -253,9 +255,9 @@ def write(recording: NewRecording, name: pathlib.Path, write_others: Callable[[]
         write_others()
 
 
-def write_words(recording: NewRecording, name: pathlib.Path) -> None:
+def write_words(recording: NewRecording, name: pathlib.Path, permissions: int = 0o666) -> None:
     """Writes Go's lock words, a line of JSON for each: the step before, the cell, and the value."""
-    with whole(name) as file:
+    with whole(name, permissions=permissions) as file:
         for step, socket, word in recording.words:
             file.write(json.dumps([step, f"lock {socket}", str(word % 2**64)]) + "\n")
 

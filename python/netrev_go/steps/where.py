@@ -64,9 +64,10 @@ def write_where(
     more: Iterable[object] = (),
     times: list[int] | None = None,
     everybody: Everybody | None = None,
+    permissions: int = 0o666,
 ) -> None:
     """Writes the file of a recording whose steps have these stacks and orders, with the log's other facts, further
-    lines, the steps' times, and all goroutines."""
+    lines, the steps' times, and all goroutines. A new file gets these permissions."""
     numbered = NumberedLines(calls)
     numbered.add({"where": 1 if everybody is None else 2, "steps": len(stacks)})
     number_of = {key: str(numbered.stack(key)) for key in dict.fromkeys(stacks)}.__getitem__
@@ -95,7 +96,7 @@ def write_where(
             numbered.add({what: []})
         for first in range(0, len(values), STEPS_A_LINE):
             numbered.add({what: values[first : first + STEPS_A_LINE]})
-    written_whole(name, "".join(numbered.lines).encode("ascii"))
+    written_whole(name, "".join(numbered.lines).encode("ascii"), permissions)
 
 
 def own_line(calls: Calls) -> tuple[LineCall, str] | None:

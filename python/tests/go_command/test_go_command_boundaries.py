@@ -4,6 +4,8 @@ of tests end."""
 import argparse
 import contextlib
 import io
+import os
+import shlex
 from collections.abc import Callable, Iterator
 from pathlib import Path
 from types import SimpleNamespace as Made
@@ -58,17 +60,25 @@ def test_flags_for_the_compiler_of_the_user_s_own_stay(word: str, is_own: bool, 
     assert ("-gcflags=-l" in cli.flags(cast(Any, Made(flags="")), ["-v", word])) is not is_own
 
 
-@pytest.mark.parametrize("has_memory, folder", [(True, "/dev/shm"), (False, "/tmp")])
-def test_logs_of_a_shell_go_to_memory_if_there_is_a_folder_for_it(
-    has_memory: bool, folder: str, monkeypatch: Patch, capsys: Output
+@pytest.mark.parametrize("name", ["logs", "my logs"])
+def test_logs_of_a_shell_go_to_a_folder_of_the_user(
+    name: str, tmp_path: Path, monkeypatch: Patch, capsys: Output
 ) -> None:
     monkeypatch.setattr(cli, "ready", lambda go: "/o.json")
-    monkeypatch.setattr(Path, "is_dir", lambda path: has_memory)
-    assert cli.env(cast(Any, Made(flags="-v"))) == 0
-    assert capsys.readouterr().out.splitlines() == [
-        "export GOFLAGS='-v -overlay=/o.json -count=1'",
-        f"export NETREV_LOG={folder}/mine",
-    ]
+    monkeypatch.setenv("NETREV_LOGS", str(tmp_path / name))
+    (tmp_path / name).mkdir()
+    folder = tmp_path / name / f"netrev-{os.geteuid()}"
+    for _ in range(2):
+        assert cli.env(cast(Any, Made(flags="-v"))) == 0
+        assert capsys.readouterr().out.splitlines() == [
+            "export GOFLAGS='-v -overlay=/o.json -count=1'",
+            f"export NETREV_LOG={shlex.quote(f'{folder}/log')} NETREV_KEEP=all",
+        ]
+        assert folder.stat().st_mode & 0o777 == 0o700
+    monkeypatch.setattr(os, "geteuid", lambda: os.getuid() + 1)
+    folder.rename(tmp_path / name / f"netrev-{os.geteuid()}")
+    with pytest.raises(RecorderError, match=f"it belongs to user {os.getuid()}"):
+        cli.env(cast(Any, Made(flags="")))
 
 
 @pytest.mark.parametrize("program", ["/opt/netrev", ""])
@@ -199,7 +209,7 @@ def run_of(folder: Path, runner: Runner, monkeypatch: Patch) -> go_test.GoRun:
     fakes: dict[str, Callable[..., object]] = {
         "claim": lambda item: item, "logs_folder": lambda points: folder, "limits_of": lambda options: None, "replace": lambda limits, **more: limits,
         "GoRunner": lambda *words: runner, "still_written": lambda item: [], "leave": lambda *words: None, "report_unrecorded": lambda item: False,
-        "report_no_log": lambda item, failed: False, "RecordingMaker": lambda *words: Made(so_far=lambda: (folder / "new/here").touch()),
+        "report_no_log": lambda item: False, "RecordingMaker": lambda *words: Made(so_far=lambda: (folder / "new/here").touch()),
     }  # fmt: skip
     for name, fake in fakes.items():
         monkeypatch.setattr(go_test, name, fake)
@@ -281,7 +291,8 @@ def test_only_the_log_of_a_process_is_still_written(
 def test_how_far_a_program_s_code_is_moved(tmp_path: Path, size: int, moved: int | None) -> None:
     program = tmp_path / "program"
     program.write_bytes(elf(size, 0x400))
-    assert source_lines.shift(program, 0x1000) == moved
+    with program.open("rb") as file:
+        assert source_lines.shift(file, 0x1000) == moved
 
 
 def test_a_folder_without_room_for_recordings_is_refused() -> None:

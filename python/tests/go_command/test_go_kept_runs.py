@@ -6,6 +6,7 @@ import io
 import json
 import os
 import re
+import shlex
 import shutil
 import signal
 import subprocess
@@ -18,12 +19,13 @@ from typing import Any
 
 import pytest
 
-from dev.fuzz.generators.logs import from_text
+from dev.fuzz.generators.logs import binary, from_text
+from netrev.messages import recorder as messages
 from netrev.text.files import whole
 from netrev_go import cli, recordings
 from netrev_go.cli import ExitStatus
 from netrev_go.go_command.outputs import base_name, look
-from netrev_go.go_command.running import SIGNALS, logs_in
+from netrev_go.go_command.running import SIGNALS
 from netrev_go.go_command.toolchain import Go, RecorderError
 from netrev_go.log.logfile import Header
 from netrev_go.log.points import Log, PointKind
@@ -31,6 +33,7 @@ from netrev_go.steps import recording_builder, report
 from netrev_go.steps.recording_builder import make
 from netrev_go.steps.zeros import Zeros
 from tests.logs.test_go_converting import WORD, Points
+from tests.logs.test_go_logs import opened
 from tests.support.stubs import raising
 
 PYTHON = Path(__file__).resolve().parents[2]
@@ -86,7 +89,7 @@ class Run:
         """The result of converting the logs that were kept, with the command that was printed for that."""
         kept, logs = KEPT.search(output), AGAIN.search(output)
         assert kept and logs, output
-        self.cleanups.callback(shutil.rmtree, kept[1])
+        self.cleanups.callback(shutil.rmtree, kept[1], True)
         returned, output = self.called("-o", "again", "convert", logs[1])
         assert returned == 0, output
         return (self.folder / "again.jsonl").read_text()
@@ -191,24 +194,23 @@ def test_a_disk_that_is_full_leaves_what_stood_there(monkeypatch: pytest.MonkeyP
     assert [name for name in os.listdir() if name.startswith(".netrev")] == []
 
 
-def test_whatever_fails_the_logs_stay(monkeypatch: pytest.MonkeyPatch, run: Run) -> None:
-    logs = run.folder / "logs"
-
-    def folder(_: int) -> Path:
-        logs.mkdir()
-        return logs
-
+@pytest.mark.parametrize(
+    "error, status, says", [(MemoryError, 1, "memory ran out"), (KeyboardInterrupt, 130, "interrupted")]
+)
+def test_whatever_fails_the_logs_stay_and_are_named_until_they_are_removed(
+    error: type[BaseException], status: int, says: str, monkeypatch: pytest.MonkeyPatch, run: Run
+) -> None:
     with monkeypatch.context() as patch:
-        patch.setattr(cli, "logs_folder", folder)
-        patch.setattr(recordings, "convert", raising(MemoryError))
-        with pytest.raises(MemoryError):
-            run.called("run", "main.go")
-        assert [log.read_bytes() for log in logs_in(logs)] == [run.log.read_bytes()]
-        shutil.rmtree(logs)
-        patch.setattr(recordings, "convert", raising(KeyboardInterrupt))
+        patch.setattr(recordings, "convert", raising(error))
         returned, output = run.called("run", "main.go")
-    assert returned == 130, output
+    assert (returned, f"netrev-go: {says}\n" in output) == (status, True), output
     assert run.again(output) == WHOLE
+    for command in ("recover", "convert"):
+        found = re.findall(r"convert (\S+)` makes recordings of them, `(rm -r \S+)` deletes", run.called(command)[1])
+        assert [logs for logs, _ in found] == AGAIN.findall(output)
+        removes = found[0][1]
+    subprocess.run(removes, shell=True, check=True)
+    assert "kept" not in run.called("recover")[1] and os.listdir(os.environ["NETREV_LOGS"]) == []
 
 
 def test_a_log_of_a_recording_that_netrev_refuses_stays(run: Run) -> None:
@@ -234,6 +236,39 @@ def test_processes_that_cannot_write_a_log_are_named(run: Run) -> None:
     assert (returned, "nothing was recorded" in output) == (0, False), output
 
 
+def test_go_may_fail_after_a_program_ran_that_opened_no_log(run: Run) -> None:
+    for status in (0, 1):
+        for command in ("run", "test"):
+            returned, output = run.called(command, ".", status=status, leaves="true")
+            assert (returned, output) == (status, f"netrev-go: {messages.NOTHING_RAN}\n")
+
+
+def test_memory_that_runs_out_stops_only_the_log_that_needs_it(run: Run) -> None:
+    (run.folder / "large").write_bytes(binary(opened(150_000)))
+    words = [sys.executable, str(PYTHON), "netrev_go", "-o", "x", "convert", "large", "stored"]
+    script = f"ulimit -v 150000; exec {shlex.join(words)}"
+    ended = subprocess.run(["sh", "-c", script], capture_output=True, text=True, check=False)
+    assert (ended.returncode, ended.stderr, "large: memory ran out\n" in ended.stdout) == (1, "", True), ended
+    assert (run.folder / "x-2.jsonl").read_text() == WHOLE and not (run.folder / "x.jsonl").exists()
+
+
+@pytest.mark.parametrize(
+    "of_log, before, after",
+    [(0o600, None, 0o600), (0o640, None, 0o640), (0o777, None, 0o644), (0o400, None, 0o600), (0o600, 0o664, 0o664)],
+)
+def test_a_new_recording_has_the_permissions_of_its_log(of_log: int, before: int | None, after: int, run: Run) -> None:
+    run.log.with_name("stored.tests").write_text("1 1 5 package p\n2 3 9 runs T\n")
+    run.log.chmod(of_log)
+    names = [run.folder / f"x.{ending}" for ending in ("jsonl", "where", "words")]
+    for name in names if before is not None else ():
+        name.write_text('{"where":1}')
+        name.chmod(before or 0)
+    umask = os.umask(0o022)
+    status, output = run.called("--words", "-o", "x", "convert", "stored")
+    os.umask(umask)
+    assert (status, [name.stat().st_mode & 0o777 for name in names]) == (0, [after] * 3), output
+
+
 def test_logs_that_are_gone_are_said_to_be(run: Run) -> None:
     returned, output = run.called("--strict", "run", "main.go", does='rm -r "$(dirname $NETREV_LOG)"')
     assert returned == ExitStatus.UNRECORDED, output
@@ -253,9 +288,9 @@ def test_one_log_that_cannot_be_converted_takes_nothing_from_the_others(run: Run
     assert returned == ExitStatus.TROUBLE, output
     assert "netrev-go: x.jsonl: Is a directory" in output
     assert (run.folder / "x-2.jsonl").read_text() == WHOLE
-    assert output.count(": not a regular file") == 2, output
+    assert "/dev/zero: can't be read: it is a device" in output and output.count("it is a folder") == 1, output
     for word in ("", "/", "."):
-        assert ": not a regular file" in run.called("convert", word)[1]
+        assert "it is a folder" in run.called("convert", word)[1]
 
 
 def test_a_reader_that_has_gone_stops_nothing(run: Run) -> None:
@@ -276,8 +311,8 @@ def failing(write: Callable[[Any, str], int]) -> Any:
     """A file in which every write after the first fails."""
 
     @contextlib.contextmanager
-    def opened(path: Path, mode: str = "w") -> Any:
-        with whole(path, mode) as file:
+    def opened(path: Path, mode: str = "w", permissions: int = 0o666) -> Any:
+        with whole(path, mode, permissions) as file:
             file.write("a part")
             yield SimpleNamespace(write=lambda text: write(file, text), flush=file.flush, fileno=file.fileno)
 

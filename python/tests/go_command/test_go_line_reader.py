@@ -2,12 +2,14 @@
 of Go."""
 
 import struct
+import subprocess
 from pathlib import Path
 
 import pytest
 
 from dev.fuzz.generators.logs import from_text
 from netrev_go import doctor, release_check
+from netrev_go.go_command import toolchain
 from netrev_go.go_command.line_reader import build_line_reader, kept, line_reader, shipped
 from netrev_go.go_command.toolchain import Go, RecorderError
 from netrev_go.steps.conversion import RecordingOptions, convert
@@ -15,7 +17,7 @@ from tests.logs.test_go_logs import REAL
 
 BUILDS = """echo "$@" >> {folder}/called
 [ "$1" = build ] || exit 1
-printf '#!/bin/sh\\necho "$@" >> {folder}/read\\n' > "$3"
+printf '#!/bin/sh\\ncat "$@" >> {folder}/read\\n' > "$3"
 chmod 700 "$3"
 """
 
@@ -73,7 +75,7 @@ def test_before_the_first_recording_it_is_built_and_lines_are_read_by_it(
     log.write_bytes(from_text((REAL / "past.log").read_text())[0])
     (folder / "log.program.0.0").write_bytes(elf())
     convert(log, name, go, RecordingOptions())
-    assert (written(folder, "read"), len(written(folder, "called"))) == ([str(folder / "log.program.0.0")], 1)
+    assert ((folder / "read").read_bytes(), len(written(folder, "called"))) == (elf(), 1)
 
 
 def test_where_go_can_not_build_it_that_is_said_and_go_is_asked_later(folder: Path) -> None:
@@ -83,6 +85,38 @@ def test_where_go_can_not_build_it_that_is_said_and_go_is_asked_later(folder: Pa
     assert "nothing to build with" in doctor.reads_lines(go)
     assert line_reader(go)[1:] == ["tool", "addr2line"]
     assert doctor.reads_lines(go_of(folder, BUILDS)) == f"read by {kept(go)}"
+
+
+@pytest.mark.parametrize("name", ["addr2line", "overlay.json", "without.txt", "a.go", "sums.json"])
+@pytest.mark.parametrize(
+    "damage",
+    [": > {}", "rm {}", "echo x >> {}", "echo '{{\"Replace\":{{}}}}' > {}", "echo '[1]' > {}", "echo '{{}}' > {}"],
+)
+def test_what_is_damaged_in_the_cache_is_made_anew(
+    name: str, damage: str, folder: Path, monkeypatch: pytest.MonkeyPatch
+) -> None:
+    def make(_: Go, place: Path) -> list[str]:
+        calls.append("overlay")
+        for file in names:
+            (place / file).write_text(f"whole {file}")
+        return names
+
+    calls, names = list[str](), ["overlay.json", "without.txt", "a.go"]
+    monkeypatch.setattr(toolchain, "make_overlay", make)
+    go = go_of(folder, BUILDS)
+    for _ in range(2):
+        made = {
+            path: path.read_bytes()
+            for place in (toolchain.overlay(go), build_line_reader(go))
+            for path in place.parent.iterdir()
+        }
+    assert calls == ["overlay"] and len(written(folder, "called")) == 1
+    for path in [path for path in made if path.name == name]:
+        subprocess.run(damage.format(path), shell=True, check=True)
+    assert (line_reader(go)[1:] == []) is (name not in ("addr2line", "sums.json"))
+    toolchain.overlay(go), build_line_reader(go)
+    assert {path: path.read_bytes() for path in made} == made and line_reader(go) == [str(kept(go))]
+    assert len(calls) + len(written(folder, "called")) == (4 if name == "sums.json" else 3)
 
 
 def elf(entry: int = 64, address: int = 0) -> bytes:

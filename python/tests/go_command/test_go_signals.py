@@ -205,6 +205,21 @@ def test_logs_of_a_netrev_go_that_runs_and_of_other_users_are_left_alone(
     running.communicate(timeout=PATIENCE)
 
 
+@pytest.mark.parametrize("command", ["recover", "convert"])
+def test_a_folder_without_a_log_is_removed_once_no_program_can_write_there(command: str, folder: Path) -> None:
+    stand_in = StandIn(folder, f'rm "$NETREV_LOG.$$"; {RUNS}')
+    running = stand_in.start("-o", "x", "run", ".")
+    stand_in.wait_for("here")
+    stand_in.call(command)
+    running.kill()
+    running.wait(PATIENCE)
+    stand_in.call(command)
+    assert len(remaining_logs(stand_in)) == 1
+    (folder / "end").touch()
+    running.communicate(timeout=PATIENCE)
+    assert "interrupted before" not in stand_in.call(command)[1] and remaining_logs(stand_in) == []
+
+
 def test_a_log_that_a_program_still_writes_is_left_alone_and_kept(folder: Path) -> None:
     stand_in = StandIn(
         folder,
@@ -230,11 +245,11 @@ while os.path.exists("go") and not os.path.exists("end"):
     assert stand_in.recording("y") == WHOLE.read_text() and remaining_logs(stand_in) == []
 
 
-def test_only_the_user_can_read_a_runs_folder_unless_that_is_root(folder: Path) -> None:
-    stand_in = StandIn(folder, 'stat -c "%a %n" "$(dirname "$NETREV_LOG")" "$NETREV_LOG.unrecorded" > modes')
+def test_only_the_user_can_read_a_runs_folder(folder: Path) -> None:
+    stand_in = StandIn(folder, 'cd "$(dirname "$NETREV_LOG")"; stat -c %a . owner log.unrecorded .. > $OLDPWD/modes')
     assert stand_in.call("-o", "x", "run", ".")[0] == 0
-    modes = [line.split()[0] for line in (folder / "modes").read_text().splitlines()]
-    assert modes == (["711", "1733"] if os.geteuid() == 0 else ["700", "700"])
+    modes = (folder / "modes").read_text().split()
+    assert modes == (["711", "600", "1733", "711"] if os.geteuid() == 0 else ["700", "600", "700", modes[3]])
 
 
 def test_standard_error_that_is_full_changes_no_status(folder: Path) -> None:

@@ -362,6 +362,7 @@ def test_a_program_of_a_hundred_thousand_goroutines_has_room(
             points.append(Point(number, kind, goid, goid * 96 if a == VALUE else 0, a, 0, 0, 1_000 * number, 3))
     log, name = folder / "log.1", folder / "x.jsonl"
     log.write_bytes(binary(points, {3: PointStack(500, 600, (700,))}))
+    (folder / "log.program.0.0").touch()
     symbols = {699: ("main.work", "/x/main.go", 7), 499: ("main.main", "/x/main.go", 30)}
     go = Go("go", pathlib.Path("/nowhere"), "go1", "linux/amd64", "")
     with monkeypatch.context() as patch:

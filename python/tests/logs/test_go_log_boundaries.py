@@ -5,7 +5,6 @@ import argparse
 import io
 import json
 import re
-import stat
 import subprocess
 from collections.abc import Callable
 from pathlib import Path
@@ -276,7 +275,7 @@ def test_the_status_of_recovered_runs(statuses: str, ends: int, monkeypatch: Pat
         )
 
     fakes: dict[str, Callable[..., object]] = {
-        "look": lambda base, is_typed, more: folders.append(base), "left_runs": lambda: runs, "take_over": lambda run: True, "RecordingMaker": made,
+        "look": lambda base, is_typed, more: folders.append(base), "left_runs": lambda *kept: [] if kept else runs, "take_over": lambda run: True, "RecordingMaker": made,
     }  # fmt: skip
     for name, fake in fakes.items():
         monkeypatch.setattr(recovery, name, fake)
@@ -441,7 +440,7 @@ def test_each_command_does_its_own(words: list[str], called: list[str], monkeypa
 def test_rules_that_don_t_fit_are_named(status: int, says: list[str], tmp_path: Path, monkeypatch: Patch) -> None:
     run = Made(returncode=status, stdout="unfit a\nfits b\nwithout c\nis unfit \n", stderr="broken")
     (tmp_path / "points").touch()
-    (tmp_path / toolchain.NEW).touch()
+    (tmp_path / toolchain.NEW).write_text(json.dumps({"Replace": {"/src/a.go": f"{tmp_path}/a.go", "/b.go": "/b.go"}}))
     monkeypatch.setattr(toolchain, "points_program", lambda go, folder: tmp_path / "points")
     monkeypatch.setattr(toolchain, "quiet_go", lambda *words: Made(returncode=0))
     monkeypatch.setattr(subprocess, "run", lambda *words, **more: run)
@@ -452,7 +451,7 @@ def test_rules_that_don_t_fit_are_named(status: int, says: list[str], tmp_path: 
             toolchain.make_overlay(go, tmp_path)
         assert str(trouble.value).splitlines() == says
     else:
-        toolchain.make_overlay(go, tmp_path)
+        assert toolchain.make_overlay(go, tmp_path) == [toolchain.OVERLAY, toolchain.LEFT_OUT, "a.go"]
         assert (tmp_path / toolchain.LEFT_OUT).read_text() == "without c\n" and (tmp_path / toolchain.OVERLAY).exists()
 
 
@@ -577,7 +576,7 @@ def test_a_left_run_is_in_a_folder_of_this_user_s(
     (tmp_path / "link").symlink_to(tmp_path / "folder")
     user = (tmp_path / name).lstat().st_uid
     monkeypatch.setattr(run_folders.os, "geteuid", lambda: user if is_mine else user + 1)
-    assert run_folders.is_own(tmp_path / name, stat.S_ISDIR) is is_folder
+    assert run_folders.is_own(tmp_path / name) is is_folder
 
 
 @pytest.mark.parametrize(

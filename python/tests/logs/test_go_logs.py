@@ -1,6 +1,7 @@
 """The recorder's logs can be read even if they are damaged, and the stored logs become the stored recordings and
 lines."""
 
+import io
 import pathlib
 import random
 import struct
@@ -15,7 +16,7 @@ from netrev_go.log.logfile import HEADER_BYTES, NotALogError, read_log
 from netrev_go.log.points import Log, Point, PointKind
 from netrev_go.log.source_lines import Calls, LineCall, SourceRoots, lines_of, looked_up
 from netrev_go.steps import conversion
-from netrev_go.steps.conversion import RecordingOptions, convert
+from netrev_go.steps.conversion import RecordingOptions, convert, read_whole
 from netrev_go.steps.recording_builder import NothingRecordedError, UnconvertibleError, make, write
 from netrev_go.steps.report import Conversion, next_line, wait_of
 from netrev_go.steps.where import own_line, write_where
@@ -68,7 +69,7 @@ def test_stored_logs_give_the_stored_lines(monkeypatch: pytest.MonkeyPatch) -> N
             with monkeypatch.context() as patch:
                 patch.setattr(source_lines, "shift", lambda *_, **__: 0)
                 patch.setattr(source_lines, "looked_up", lambda *_, **__: symbols)
-                calls = lines_of(log, set(recording.stacks), pathlib.Path("none"), ["go"], SourceRoots(sources, here))
+                calls = lines_of(log, set(recording.stacks), io.BytesIO(), ["go"], SourceRoots(sources, here))
             made_file = pathlib.Path(folder, "made.where")
             write_where(made_file, recording.stacks, calls)
             assert made_file.read_text() == (REAL / f"{name}.where").read_text(), name
@@ -195,11 +196,11 @@ def test_a_copy_that_a_program_couldn_t_make_says_why(folder: pathlib.Path) -> N
     copy.with_name(copy.name + ".failed.028").touch()
     copy.with_name("log.2.snapshot.failed.005").touch()
     with pytest.raises(NotALogError, match="couldn't copy its log: No space left on device"):
-        read_log(copy)
+        read_whole(copy)
     with pytest.raises(NotALogError, match="can't be read: No such file"):
-        read_log(copy.with_name("log.3.snapshot"))
+        read_whole(copy.with_name("log.3.snapshot"))
     copy.write_bytes(binary(opened(2)))
-    assert len(read_log(copy).points) == 4
+    assert len(read_whole(copy).log.points) == 4
 
 
 def test_a_log_that_is_cut_short_gives_what_is_whole() -> None:
@@ -372,7 +373,8 @@ def test_the_next_line_has_the_commands_of_the_first_suspect() -> None:
 def test_addresses_become_lines(monkeypatch: pytest.MonkeyPatch) -> None:
     result = "main.f\n/p/main.go:14\n?\n?:0\n"
     monkeypatch.setattr(source_lines.subprocess, "run", lambda *_, **__: stub(stdout=result))
-    assert looked_up(pathlib.Path("p"), ["go"], [5, 4], 0) == {4: ("main.f", "/p/main.go", 14)}
+    with tempfile.TemporaryFile() as program:
+        assert looked_up(program, ["go"], [5, 4], 0) == {4: ("main.f", "/p/main.go", 14)}
 
 
 def test_without_go_there_is_a_recording_without_lines(folder: pathlib.Path, monkeypatch: pytest.MonkeyPatch) -> None:

@@ -7,6 +7,7 @@ Neither Go nor netrev is needed.
 """
 
 import hashlib
+import io
 import json
 import random
 import sys
@@ -119,7 +120,7 @@ def looked_up(symbols: Symbols) -> Iterator[None]:
         with pytest.MonkeyPatch.context() as patch:
             patch.setattr("netrev_go.log.source_lines.shift", lambda *_, **__: 0)
             patch.setattr("netrev_go.log.source_lines.looked_up", lambda *_, **__: symbols)
-            return lines_of(log, used, Path("none"), ["go"], SourceRoots(SOURCES, Path("/samples")))
+            return lines_of(log, used, io.BytesIO(), ["go"], SourceRoots(SOURCES, Path("/samples")))
 
     with pytest.MonkeyPatch.context() as patch:
         patch.setattr(conversion, "lines_of", found)

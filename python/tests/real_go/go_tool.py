@@ -357,7 +357,7 @@ def fit(tool: Tool, changes: dict[str, dict[str, str]]) -> tuple[int, list[str]]
 # netrev-go's words, its settings, and its message; {python}, {tools} and {folder} are folders
 OBSTACLES: tuple[tuple[tuple[str, ...], dict[str, str], str], ...] = (
     (("run", "none.go"), {}, "no socket was opened"),
-    (("run", "missing.go"), {}, "nothing was recorded: Go failed before it ran"),
+    (("run", "missing.go"), {}, "nothing was recorded: no program ran, or it opened no log"),
     (("run", "main.go"), {"PATH": "{python}:/nowhere:{tools}"}, "apt-get install golang-go"),
     (("run", "-overlay=x.json", "main.go"), {}, "remove yours"),
     (("run", "main.go"), {"GOFLAGS": "-overlay=x.json"}, "remove yours"),

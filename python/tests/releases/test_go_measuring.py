@@ -338,7 +338,7 @@ def test_an_overlay_that_does_not_compile_is_none(tools: Tools) -> None:
     with pytest.raises(RecorderError, match="no such type"):
         toolchain.make_overlay(tools.go, made)
     compiled.returncode = 0
-    (made / toolchain.NEW).write_text("{}")
+    (made / toolchain.NEW).write_text('{"Replace": {}}')
     toolchain.make_overlay(tools.go, made)
     assert sorted(path.name for path in made.iterdir()) == sorted([toolchain.LEFT_OUT, toolchain.OVERLAY])
     assert (made / toolchain.LEFT_OUT).read_text() == "without that\n"

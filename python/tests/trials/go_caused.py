@@ -15,12 +15,11 @@ from dev.recorder.suites import SAMPLES
 from netrev.findings.causes import first_words
 from netrev.findings.suspects.ranking import all_suspects_of
 from netrev.recording.recording import Recording
-from netrev_go.go_command.line_reader import line_reader
 from netrev_go.go_command.toolchain import Go, find_go
 from netrev_go.log.logfile import read_log
-from netrev_go.log.source_lines import SourceRoots, lines_of
+from netrev_go.log.tests_in_log import Tests
 from netrev_go.release_check import ready
-from netrev_go.steps.conversion import everybody_of, program_of
+from netrev_go.steps.conversion import ReadLog, calls_of, everybody_of
 from netrev_go.steps.recording_builder import make, write
 from netrev_go.steps.where import write_where
 
@@ -95,9 +94,8 @@ def recorded(go: Go, program: pathlib.Path, words: list[str], name: pathlib.Path
         log = next(path for path in pathlib.Path(folder).iterdir() if ".program" not in path.name)
         read = read_log(log)
         recording = make(read, all_bytes=False)
-        roots = SourceRoots(go.sources(), pathlib.Path.cwd())
         used = set(recording.stacks) | recording.everybody.stacks()
-        calls = lines_of(read, used, program_of(log, read.program), line_reader(go), roots)
+        calls = calls_of(ReadLog(log, read, Tests()), used, go)
     write(recording, name)
     more = [{"bytes": recording.bytes}] if recording.bytes else []
     everybody = everybody_of(recording, recording.everybody, calls)
