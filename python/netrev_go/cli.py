@@ -127,7 +127,7 @@ def env(go: Go) -> int:
     if any(c.isspace() for c in path):
         raise RecorderError(messages.SPACE_IN_PATH.format(path=path))
     print(f"export GOFLAGS={shlex.quote(f'{go.flags} -overlay={path} -count=1'.strip())}")
-    print(f"export NETREV_LOG={shlex.quote(f'{own_folder()}/log')}")
+    print(f"export NETREV_LOG={shlex.quote(f'{own_folder()}/log')} NETREV_KEEP=all")
     return ExitStatus.DONE
 
 

@@ -261,7 +261,7 @@ def test_a_new_recording_has_the_permissions_of_its_log(of_log: int, before: int
     run.log.chmod(of_log)
     names = [run.folder / f"x.{ending}" for ending in ("jsonl", "where", "words")]
     for name in names if before is not None else ():
-        name.write_text('{"where":1}')
+        name.write_text('[1, "lock 0", "1"]' if name.suffix == ".words" else '{"where":1}')
         name.chmod(before or 0)
     umask = os.umask(0o022)
     status, output = run.called("--words", "-o", "x", "convert", "stored")

@@ -24,6 +24,7 @@ from netrev.system.time_limits import time_limit
 from netrev_go import cli
 from netrev_go.go_command import toolchain, trusted_files
 from netrev_go.go_command.line_reader import kept, line_reader, shipped
+from netrev_go.go_command.process_logs import ProcessLog
 from netrev_go.go_command.toolchain import Go, RecorderError, overlay, quiet_go
 from netrev_go.steps import report
 from tests.go_command.test_go_line_reader import elf
@@ -202,9 +203,11 @@ def test_a_log_that_another_user_s_process_has_mapped(
     cleanups.callback(running.kill)
     assert running.stdout and running.stdout.readline()
     log = f"{shared.folder}/log.{running.pid}"
-    monkeypatch.setattr("netrev_go.go_command.running.mapped_log", lambda process: Path(log))
+    for module in ("go_command.process_logs", "snapshots"):
+        monkeypatch.setattr(f"netrev_go.{module}.mapped_log", lambda process: ProcessLog(Path(log)))
     assert shared.call("-o", "own/x", "snapshot", str(running.pid)) == (1, [f"{log}: {why}"])
     status, lines = shared.call("-o", "own/x", "watch", str(running.pid))
+    assert lines.pop(0) == f"netrev-go: watching process {running.pid}; Ctrl-C ends that"
     assert (status, len(lines), why.removeprefix("can't be read: ") in lines[0]) == (4, 1, True), lines
 
 
@@ -212,7 +215,7 @@ def test_a_log_that_another_user_s_process_has_mapped(
     "trick, status",
     [
         ("ln -s own/precious x.jsonl", 4), ("ln -s nowhere x.jsonl", 4), ("mkfifo x.jsonl", 4), ("mkdir x.jsonl", 4), ("touch x.jsonl; chmod 666 x.jsonl", 0),
-        ("ln -s own/precious x.where", 4), ("ln -s own/earlier.where x.where", 0), ("mkfifo x.where", 4), ("echo '{\"where\":1' > x.where; chmod 666 x.where", 0),
+        ("ln -s own/precious x.where", 4), ("ln -s own/earlier.where x.where", 4), ("mkfifo x.where", 4), ("echo '{\"where\":1' > x.where; chmod 666 x.where", 0),
         ("ln -s own/precious x.words", 4), ("mkfifo x.words", 4),
     ],
 )  # fmt: skip
