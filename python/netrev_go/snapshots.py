@@ -90,7 +90,8 @@ class Watch:
         if stack not in self._calls:
             found = None
             if stack and self._go and (addresses := stack_at(self._file, stack)):
-                log = Log([], {stack: addresses}, text=self._header.text, program=self._header.program)
+                of = self._header
+                log = Log([], {stack: addresses}, process=of.process, text=of.text, program=of.program)
                 owner = os.fstat(self._file.fileno()).st_uid
                 found = calls_of(ReadLog(self._log, log, Tests(), owner), {stack}, self._go).get(stack)
             self._calls[stack] = found

@@ -39,7 +39,6 @@ from .report import Conversion, Hear, report, unheard
 from .scopes_of_tests import goroutines_of, sockets_of
 from .where import STEPS_A_LINE, write_where
 
-PROCESS = re.compile(r"(\.\d+){1,2}(\.snapshot)?\Z")
 FAILED_COPY = re.compile(r"\.failed\.([0-9]{3})")
 
 
@@ -60,9 +59,12 @@ def more_endings(options: RecordingOptions) -> list[str]:
     return [WORDS] if options.words else []
 
 
-def program_of(log: pathlib.Path, key: str) -> pathlib.Path:
-    """The copy of the program beside its log."""
-    return log.with_name(PROCESS.sub("", log.name) + ".program." + key)
+def program_of(path: pathlib.Path, log: Log) -> pathlib.Path:
+    """The copy of the program beside its log, whose name ends with the process, or with other numbers if it was renamed."""
+    endings = (rf"\.{log.process}(\.\d+)?(\.snapshot)?\Z", r"(\.\d+){1,2}(\.snapshot)?\Z")
+    bases = (re.sub(ending, "", path.name) for ending in endings)
+    base = next((base for base in bases if base != path.name), path.name)
+    return path.with_name(f"{base}.program.{log.program}")
 
 
 @dataclass
@@ -167,7 +169,7 @@ def converted(
 def calls_of(read: ReadLog, used: set[int], go: Go) -> dict[int, Calls]:
     """The calls of the used stacks, from the copy of the program beside the log."""
     roots = SourceRoots(go.sources(), pathlib.Path.cwd())
-    with opened_beside(program_of(read.path, read.log.program), read.owner) or nullcontext() as program:
+    with opened_beside(program_of(read.path, read.log), read.owner) or nullcontext() as program:
         return lines_of(read.log, used, program, line_reader(go), roots)
 
 

@@ -13,7 +13,7 @@ import pytest
 from dev.fuzz.generators.logs import binary
 from netrev_go.log.logfile import HEADER_BYTES, Header, copy_of, log_of, read_log
 from netrev_go.log.notes import ARMED, PARKED
-from netrev_go.log.points import Point, PointKind
+from netrev_go.log.points import Log, Point, PointKind
 from netrev_go.log.source_lines import OF_GO, OF_THE_PROGRAM, Calls, LineCall
 from netrev_go.log.times import seconds
 from netrev_go.options import check, of_a_process, parser
@@ -164,5 +164,7 @@ def test_points_that_were_replaced_while_it_was_copied_are_no_damage() -> None:
 
 
 def test_a_copy_that_the_program_made_lies_beside_the_program_too() -> None:
-    for name in ("log.7", "log.7.2", "log.7.snapshot", "log.7.2.snapshot"):
-        assert program_of(pathlib.Path("a", name), "1.2") == pathlib.Path("a/log.program.1.2")
+    log = Log([], {}, process=7, program="1.2")
+    for base in ("log", "log.5"):
+        for ending in ("7", "7.2", "7.snapshot", "7.2.snapshot"):
+            assert program_of(pathlib.Path(f"a/{base}.{ending}"), log) == pathlib.Path(f"a/{base}.program.1.2")

@@ -17,7 +17,7 @@ def main(path: pathlib.Path) -> None:
     log, go = read_log(path), find_go()
     stacks = [log.stacks[point.stack] for point in log.points if point.stack in log.stacks]
     addresses = {address - 1 for stack in stacks for address in (stack.made, *stack.calls) if address}
-    with program_of(path, log.program).open("rb") as program:
+    with program_of(path, log).open("rb") as program:
         print(to_text(log, looked_up(program, line_reader(go), addresses, 0)), end="")
 
 
