@@ -237,7 +237,9 @@ def test_the_positions_of_a_page(
 def test_a_page_shows_only_so_many_steps(monkeypatch: pytest.MonkeyPatch, first: int, last: int, is_full: bool) -> None:
     data = {"first": first, "last": last, "cells": {}, "calls": {"count": 0}}
     session = stub(text=lambda: stub(length=10 * MOST))
-    monkeypatch.setattr(page.PageSources, "by", lambda *_: stub(tell=lambda _: None, path="x.jsonl", recording=stub(data=b"")))
+    monkeypatch.setattr(
+        page.PageSources, "by", lambda *_: stub(tell=lambda _: None, path="x.jsonl", recording=stub(data=b""))
+    )
     monkeypatch.setattr(page, "collected", lambda *_, **__: data)
     monkeypatch.setattr(page, "writing", lambda *_: nullcontext(io.StringIO()))
     if is_full:
