@@ -81,7 +81,8 @@ def test_an_exception_of_a_signal_that_was_swallowed_comes_again() -> None:
             time.sleep(60)
         except BaseException as error:
             print(type(error).__name__)
-    time.sleep(60)"""
+    time.sleep(10)
+    print("late")"""
     assert run(does) == (-signal.SIGTERM, "said\nKeyboardInterrupt\nSystemExit\n")
 
 
@@ -92,7 +93,9 @@ def test_ctrl_c_before_a_program_begins_only_ends_it(tmp_path: Path) -> None:
         (tmp_path / name / "__main__.py").write_text("import signal\nsignal.raise_signal(signal.SIGINT)\n")
         ended = subprocess.run([sys.executable, tmp_path, name], capture_output=True, text=True)
         assert (ended.returncode, "Traceback" in ended.stderr) == (-signal.SIGINT, name == "other")
-    assert run("raise KeyboardInterrupt")[0] == -signal.SIGINT
+    words = [sys.executable, "-c", PROGRAM.format(does="raise KeyboardInterrupt")]
+    ended = subprocess.run(words, cwd=PACKAGES, capture_output=True, text=True)
+    assert (ended.returncode, ended.stderr) == (-signal.SIGINT, "")
 
 
 def test_an_older_python_is_refused_in_a_line() -> None:

@@ -85,8 +85,10 @@ def test_without_the_word_there_is_none(package: Behind) -> None:
     assert list((package.folder / "recordings").glob("*.html")) == []
 
 
-def test_a_page_that_cannot_be_made_is_said_and_changes_nothing(package: Behind) -> None:
-    (package.folder / "recordings/toy.TestRed.a_part.html").mkdir(parents=True)
+def test_a_page_that_cannot_be_made_is_said_and_changes_nothing(
+    monkeypatch: pytest.MonkeyPatch, package: Behind
+) -> None:
+    monkeypatch.setattr("netrev.timeline.page.write_page_beside", raising(OSError(28, "No space left on device")))
     status, _, output = package.told("--html", "--json", "a.json", "test", ".", status=1)
     assert status == 1
     assert "netrev-go: recordings/toy.TestRed.a_part.html can't be made: " in output
@@ -146,7 +148,7 @@ def test_where_it_could_not_look_that_is_said(monkeypatch: pytest.MonkeyPatch, p
     assert "TestGreen.jsonl: other schedules weren't explored: explore replays calls of Go" in text
     monkeypatch.setattr(go_test_results, "GRACE", 0)
     _, text = explored(package, "--explore", "0")
-    assert re.search(r"TestGreen\.jsonl: other schedules weren't explored: nrdb ended with status 13[07]", text)
+    assert re.search(r"TestGreen-2\.jsonl: other schedules weren't explored: nrdb ended with status 13[07]", text)
 
 
 def test_where_go_fails_no_schedule_is_played(monkeypatch: pytest.MonkeyPatch, package: Behind) -> None:
