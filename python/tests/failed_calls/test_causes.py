@@ -31,7 +31,8 @@ from tests.trials.go_caused import NAMES, SOURCE, bug_line, source_of
 
 CAUSED = Path(__file__).parents[1] / "caused"
 ALL = [name for names in NAMES.values() for name in names]
-WITHOUT_A_LINE = ("body",)  # (no goroutine is at the line where a Close is missing)
+# no goroutine is at the line where a Close or an Unlock is missing, or that copies, sets a length or skips a Reset
+WITHOUT_A_LINE = ("body", "abandoned", "copied", "shortened", "timed")
 TWO_ENDS: Steps = [*OPEN, ["sockopen", 16, 16], ["pollopen", 0, 1]]
 SETS: Steps = [["incref", 0, 0], ["setdeadline", 0, 0, "r", 5], ["decref", 0, 0]]
 PASSES: Steps = [["tick", 9], ["pop"], ["fire", 0]]

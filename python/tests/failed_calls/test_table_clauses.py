@@ -86,13 +86,12 @@ def test_hands_that_have_ended(change: dict[str, Any], says: bool, monkeypatch: 
 @pytest.mark.parametrize(
     "change, says",
     [
-        ({}, "read on in step 12 (ways)."), ({"ways": ""}, "read on in step 12."), ({"next": "Write"}, "It was cut."), ({"socket": 4}, "It was cut."), ({"first": 9}, "It was cut."),
-        ({"datagram": False}, "last"), ({"wrote": False}, "last"), ({"goroutine": 2}, "last"), ({"last": 20}, "read on in step 21 (ways)."), ({"last": 21}, "last"),
+        ({}, "read on in step 12."), ({"next": "Write"}, "It was cut."), ({"socket": 4}, "It was cut."), ({"first": 9}, "It was cut."),
+        ({"datagram": False}, "last"), ({"wrote": False}, "last"), ({"goroutine": 2}, "last"), ({"last": 20}, "read on in step 21."), ({"last": 21}, "last"),
     ],
 )  # fmt: skip
 def test_a_request_that_was_cut(change: dict[str, Any], says: str, monkeypatch: Patch) -> None:
     usual = {
-        "ways": "ways",
         "next": "Read",
         "socket": 5,
         "first": 12,
@@ -108,8 +107,6 @@ def test_a_request_that_was_cut(change: dict[str, Any], says: str, monkeypatch: 
     monkeypatch.setattr(cut_datagrams, "is_datagram", lambda index, socket: case.datagram)
     monkeypatch.setattr(cut_datagrams, "cut_datagrams", lambda index: (other, pair))
     monkeypatch.setattr(cut_datagrams, "last_cut", lambda index, call: ["last"])
-    monkeypatch.setattr(cut_datagrams, "paths_without_answer", lambda recording, stack, writes: case.ways)
-    monkeypatch.setattr(cut_datagrams, "writes_of", lambda index, read: set())
     index = Made(
         recording=Made(lines=Made(of=lambda step: None)), last_use=lambda socket, step, names: wrote if case.wrote else None,
         by_goroutine={7: [read, Made(first=case.first, name=case.next, socket=case.socket)]},

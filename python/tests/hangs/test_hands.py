@@ -1,7 +1,6 @@
 """Goroutines that failed to pass on a value or a turn, in recordings of tools/go/samples/hands (made by
 tests.trials.go_caused). In a bad run, the first cause names the line with the reason. In a good run, no cause names
-that line. Other tests are about variables that the goroutines of a loop share, and about Reads that may get only a
-part."""
+that line. Other tests are about variables that the goroutines of a loop share."""
 
 from pathlib import Path
 
@@ -9,7 +8,6 @@ import pytest
 
 from netrev.findings.causes.first_output import first_words
 from netrev.findings.evidence.loop_variables import shared_at, shared_variables
-from netrev.findings.streams.partial_reads import partial_lines
 from netrev.recording.recording import Recording
 from netrev.recording.where import OF_THE_PROGRAM, SourceCall
 from tests.failed_calls.test_causes import in_the_folder_of_the_source
@@ -20,9 +18,7 @@ from .test_needs import stored
 SAYS = {
     "severed": ("in (*caller).receive, from whose loop only {bug} leads", "met the end of the stream"),
     "dismissed": ("have all ended, from whose loop only {bug} leads.", "which put such values at main.go:"),
-    "repeated": ("each had its Done: more was added than that: {bug} goes on without it.", "1 call of Done is missing"),
     "deferred": ("It is closed only as crawl returns: the defer at {bug} is in a loop.", "3 connections are kept"),
-    "hidden": ("{bug} should have flushed the answer, and nothing was written", "is no http.Flusher"),
     "mingled": ("Read at {bug} in ask", "each Read gets what comes next, perhaps the answer to another's request"),
     "stranded": ("should have closed it: {bug} returns without that.", "Nobody has put a value into other.landed"),
 }
@@ -93,11 +89,3 @@ def test_the_language_of_a_module(tmp_path: Path, module: str, is_shared: bool) 
     recording.lines.goroutines[goid] = known._replace(made=source_call)
     says = [f"Perhaps all goroutines started at {file}:5 use the last one of the loop at {file}:4: the module's language is Go 1.21, in which they share it."]  # fmt: skip
     assert shared_variables(recording, str(file)) == (says if is_shared else [])
-
-
-def test_reads_that_may_get_a_part() -> None:
-    lines = (
-        "func get(in io.Reader) {", "\tsize := next(in)", "\tin.Read(block[:size])", "\tin.Read(block[have:size])", "\tall := make([]byte, size)",
-        "\tin.Read(all)", "\tone := make([]byte, 1)", "\tin.Read(one)", "\tio.ReadFull(in, all)", "}",
-    )  # fmt: skip
-    assert partial_lines(lines, range(1, len(lines) + 1)) == [3, 6]

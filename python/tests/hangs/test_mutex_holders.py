@@ -107,20 +107,11 @@ def held(number: int, stack: int, how: str = "") -> HeldMutex:
     return HeldMutex(MUTEX, number, how, stack, 2)
 
 
-LEFT = "Goid 7 locked it at book.go:4 in (*book).update (step 2), and returned from (*book).update with it locked."
-LEAK = "(*book).update returns at book.go:6 without an Unlock."
-
-
 def test_a_goroutine_that_has_locked_it_itself(tmp_path: Path) -> None:
     book = Book(tmp_path, held(7, UPDATES))
     wait = book.waits(7, Stack((LOCK, *book.recording.lines.stacks[READS].calls[:1], *book.stack(LOGS).calls), None))
     says = ["It holds it itself, locked at book.go:4: Lock waits for its own goroutine."]
     assert book.need(wait) == Need(says, is_odd=True)
-
-
-def test_a_goroutine_that_left_it_locked_before(tmp_path: Path) -> None:
-    book = Book(tmp_path, held(7, UPDATES))
-    assert book.need(book.waits(7, book.stack(CALLS, LOCK))) == Need([LEFT, LEAK], is_odd=True, gone=goid(7))
 
 
 def test_a_reader_that_locks_for_writing(tmp_path: Path) -> None:
@@ -153,14 +144,7 @@ def test_a_holder_that_has_returned_and_waits_elsewhere(tmp_path: Path) -> None:
     book = Book(tmp_path, held(7, UPDATES))
     book.waits(7, book.stack(CALLS), at=At(ANOTHER, ""))
     need = book.need(book.waits(8, book.stack(READS, LOCK)))
-    assert need == Need([LEFT, LEAK], is_odd=True, gone=goid(7))
-
-
-def test_a_function_that_locks_for_its_callers_has_left_nothing(tmp_path: Path) -> None:
-    book = Book(tmp_path, held(7, ACQUIRES))
-    book.waits(7, book.stack(CALLS), at=At(ANOTHER, ""))
-    need = book.need(book.waits(8, book.stack(READS, LOCK)))
-    assert need == Need([], goid(7), "{by} holds it, locked at book.go:20", Certainty.KNOWN)
+    assert need == Need([], goid(7), "{by} holds it, locked at book.go:4", Certainty.KNOWN)
 
 
 @pytest.mark.parametrize("does, more", [("sleeps at book.go:8", ", which sleeps at book.go:8"), ("", "")])
@@ -176,7 +160,7 @@ def test_a_holder_that_has_ended(tmp_path: Path) -> None:
     book.does[goid(7)] = "ended after step 3"
     need = book.need(book.waits(8, book.stack(READS, LOCK)))
     says = "Goid 7 locked it at book.go:4 in (*book).update (step 2) and ended after step 3, without unlocking it."
-    assert need == Need([says, LEAK], is_odd=True, gone=goid(7))
+    assert need == Need([says], is_odd=True, gone=goid(7))
 
 
 def test_a_reader_behind_a_writer_that_waits(tmp_path: Path) -> None:
@@ -253,5 +237,4 @@ def test_before_the_end_it_is_guessed() -> None:
             need = Needs(run_of(recording), waiters, position).of(waiter)
             words[position] = " ".join([*need.says, *need.more])
     assert "without unlocking it" in words[recording.length]
-    assert "Perhaps nobody unlocked it: (*meter).count locks it at" in words[recording.length - 1]
     assert "without unlocking it" not in words[recording.length - 1]

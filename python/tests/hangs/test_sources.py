@@ -14,33 +14,23 @@ from .test_needs import stored
 
 SAYS = {
     "datagram": "Read at {bug} in resolve, called at",
-    "frame": "Perhaps that is the length that {bug} wrote, which main.go:",
-    "held": "Perhaps what {bug} wrote is held back",
-    "alone": "Its request, made at {bug}, has no context: it doesn't end when ctx, which main.go:",
     "ordered": "Goroutine 0 waits at {bug} in (*board).closeLate",
     "departed": "which waits at {bug} in (*club).tell",
     "oneOnly": "Perhaps {bug} in (*table).joinOne should wake all",
     "reentered": "holds it, locked at {bug}.",
     "unreturned": "Perhaps they kept it on this way: {bug} returns without main.go:",
-    "outlasted": "in a function that takes r.Context() at {bug}: net/http ends that context as the handler returns.",
     "unpushed": "Perhaps what {bug} writes is still in a buffer",
-    "crowded": "that channel, made at {bug}, has room for 2 values, and net/rpc drops a call that is done while it is full.",
-    "mistaken": "in a.waiting under id; {bug} under id puts entries there, and main.go:",
     "turnedAway": "has ended, from whose loop {bug} leads.",
     "mixed": "Perhaps bytes that were read before are lost: {bug} made a reader with a buffer",
     "spins": "the break at {bug} leaves a select or a switch alone.",
-    "unheard": "{bug} puts a value there only if somebody waits or there is room, and else goes on (default)",
     "signalled": "Perhaps {bug} in (*office).collectForOne woke another one: the loop at main.go:",
     "seated": "Perhaps (*hall).enter keeps it on this way: {bug} returns without main.go:",
     "partly": "Read at {bug} in load, called at main.go:",
 }
 MORE = {
     "datagram": "read it into a buffer of 16 bytes",
-    "frame": "It is the length of text, and small was written.",
-    "held": "and nothing was written to socket",
     "ordered": "closes b.stop later, at main.go:",
     "departed": "The goroutine that took values there has ended.",
-    "outlasted": "wasn't sent: its context had ended before.",
     "mixed": "doesn't read from that. The other end has written nothing since.",
     "partly": "were never read",
 }

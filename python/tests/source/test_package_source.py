@@ -5,14 +5,13 @@ from pathlib import Path
 
 import pytest
 
-from netrev.findings.handovers.dropped_notices import dropped_notices
 from netrev.findings.pools.later_closes import channels_of
 from netrev.findings.pools.leaking_paths import paths_with_an_error
 from netrev.findings.pools.unclosed_channels import closings_of
 from netrev.findings.source.functions import is_inside
 from netrev.findings.source.package import place_of_variable
 from netrev.findings.streams.left_in_buffers import names_of, unflushed_in
-from netrev.recording.goroutines import FOR_ROOM, FOR_VALUE, PUT, At, ObjectUse
+from netrev.recording.goroutines import FOR_ROOM, FOR_VALUE, At
 from netrev.recording.recording import Recording
 from netrev.recording.waits import Name, ObjectWait, waits_of
 from netrev.recording.where import OF_THE_PROGRAM, SourceCall, Stack
@@ -149,7 +148,7 @@ def recording(tmp_path: Path) -> Recording:
     }
     for name, text in files.items():
         (tmp_path / f"{name}.go").write_text(text, encoding="utf-8")
-    found = stored("counted-bad")
+    found = stored("kept-bad")
     found.lines.written = float("inf")
     return found
 
@@ -197,20 +196,7 @@ def waiting(at: SourceCall, use: str = FOR_VALUE) -> ObjectWait:
 
 
 def stored_waits() -> dict[Name, list[ObjectWait]]:
-    return waits_of(stored("counted-bad")).of
-
-
-@pytest.mark.parametrize("text, line", [("	<-a.wake", 8), ("	<-a.done", 0)])
-def test_values_that_are_lost_if_nobody_waits(recording: Recording, tmp_path: Path, text: str, line: int) -> None:
-    at = call(tmp_path, "alarm", "(*alarm).deliver", text)
-    assert not dropped_notices(recording, waiting(at))  # no value was put there
-    recording.lines.stacks[99] = Stack((at._replace(line=7),), None)
-    recording.lines.uses[1] = [ObjectUse(1, 9, PUT, 99, 1, 1, 1, 1, 1)]
-    says = dropped_notices(recording, waiting(at))
-    assert [f"{at.file}:{line} puts a value there only if somebody waits" in say for say in says] == [True] * bool(line)
-    for_both, for_room = (At(1, FOR_VALUE), At(2, FOR_ROOM)), (At(1, FOR_ROOM),)
-    assert dropped_notices(recording, waiting(at)._replace(objects=for_both)) == says
-    assert not dropped_notices(recording, waiting(at)._replace(objects=for_room))
+    return waits_of(stored("kept-bad")).of
 
 
 def test_the_cases_of_a_select() -> None:

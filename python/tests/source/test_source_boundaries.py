@@ -9,11 +9,9 @@ from typing import Any, cast
 import pytest
 
 from netrev.findings.causes import repeated_failures  # fmt: skip
-from netrev.findings.handovers import dropped_requests, ended_givers  # fmt: skip
 from netrev.findings.locks import sync_conditions  # fmt: skip
-from netrev.findings.pools import leaking_paths, senders, uncancelled_contexts  # fmt: skip
+from netrev.findings.pools import leaking_paths, uncancelled_contexts  # fmt: skip
 from netrev.findings.source import package as package_source  # fmt: skip
-from netrev.recording.goroutines import GoGoroutine
 from netrev.recording.waits import Name, ObjectWait
 from netrev.recording.where import OF_A_LIBRARY, OF_THE_PROGRAM, SourceCall, Stack
 
@@ -179,114 +177,6 @@ def test_a_signal_that_woke_another_goroutine(
     monkeypatch.setattr(sync_conditions, "waits_of", lambda recording: Made(of=every))
     says = in_short(tmp_path, sync_conditions.mistaken_signal(recording, wait))
     assert [other_wait.partition(" and Signal wakes only")[0] for other_wait in says] == expected
-
-
-SERVE = """\
-package main
-
-func main() {
-	go serve(in)
-	go func() {
-		log()
-		in <- 1
-	}()
-	go other.serve(in)
-	go put(in)
-	in <- 3
-}
-
-func serve(in chan int) {
-	read()
-	in <- 2
-	log()
-}
-"""
-GIVINGS = [senders.Giving(7, range(5, 9)), senders.Giving(11, range(3, 13)), senders.Giving(16, range(14, 19))]
-
-
-@pytest.mark.parametrize(
-    "start_place, passed, number",
-    [
-        ("a.go:10", "a.go:15", 16), ("a.go:10", "a.go:16", 0), ("a.go:10", "a.go:15 a.go:17", 0), ("a.go:10", "b.go:15", 0),
-        ("a.go:10", "a.go:6", 7), ("a.go:10", "", 0), ("a.go:4", "", 16), ("a.go:9", "", 16), ("b.go:4", "", 0), ("a.go:5", "", 7),
-        ("a.go:4", "a.go:17", 0), ("a.go:5", "a.go:7", 0), ("a.go:5", "a.go:8", 0),
-    ],
-)  # fmt: skip
-def test_the_line_that_a_goroutine_ended_before(
-    tmp_path: Path, start_place: str, passed: str, number: int, monkeypatch: Patch
-) -> None:
-    recording, wait = at(tmp_path, SERVE, 4)
-    lines = [wait.stack.calls[0]._replace(file=str(tmp_path / file), line=int(line)) for file, _, line in (
-        place.partition(":") for place in (start_place, *passed.split())
-    )]  # fmt: skip
-    monkeypatch.setattr(ended_givers, "lines_of", lambda recording: Made(of=lambda goid: set(lines[1:])))
-    givings = [place for place in GIVINGS if place.number != 11]
-    assert ended_givers.upcoming(recording, 8, lines[0], str(tmp_path / "a.go"), givings) == number
-    (tmp_path / "b.go").write_text(SERVE, encoding="utf-8")
-    assert ended_givers.upcoming(recording, 8, lines[0], str(tmp_path / "a.go"), givings) == number
-
-
-def test_a_literal_isnt_the_function_that_starts_it(tmp_path: Path) -> None:
-    recording, wait = at(tmp_path, SERVE, 5)
-    starter = wait.stack.calls[0]
-    assert [ended_givers.starts(recording, starter, starter.file, giving) for giving in GIVINGS] == [True, False, False]
-
-
-@pytest.mark.parametrize(
-    "goroutines, expected",
-    [
-        ("4", [4]), ("4 5", [5, 4]), ("4alive 5", [5]), ("4unknown 5", [5]), ("4passed 5", [5]), ("4mine 5", [4]), ("4mine 5mine 6", [5, 4]),
-        ("4minepassed 5", []), ("4other 5passed", [4]), ("", []),
-    ],
-)  # fmt: skip
-def test_goroutines_that_ended_before_a_line(goroutines: str, expected: list[int], monkeypatch: Patch) -> None:
-    recording, known, passed = cast(Any, Made(lines=Made(goroutines={}))), {}, {}
-    for word in goroutines.split():
-        starter = None if "unknown" in word else SourceCall("main.main", "a.go", 4, OF_THE_PROGRAM)
-        goid, last = int(word[0]), -1 if "alive" in word else 0
-        known[goid] = GoGoroutine(goid, goid, starter, 3 if "mine" in word else 1, 0, last, goid, 0)
-        at_line = SourceCall(
-            "main.f", "b.go" if "other" in word else "a.go", 7 if "passed" in word or "other" in word else 8, ""
-        )
-        passed[goid] = {at_line}
-    recording.lines.goroutines = known
-    monkeypatch.setattr(ended_givers, "goid_of", lambda recording, name: 3)
-    monkeypatch.setattr(ended_givers, "lines_of", lambda recording: Made(of=passed.__getitem__))
-    found = ended_givers.ended_before(recording, cast(Any, Made(name=None)), "a.go", GIVINGS)
-    assert [goid for goid, _ in found] == expected
-
-
-ANSWER = """\
-package main
-
-func serve() {
-	for one := range asked {
-		if one.bad {
-			continue
-		}
-		one.done <- 1
-	}
-}
-
-func other() {
-	one.done <- 2
-}
-"""
-
-
-@pytest.mark.parametrize(
-    "file, line, of, answers",
-    [
-        ("a.go", 4, OF_THE_PROGRAM, 8), ("a.go", 8, OF_THE_PROGRAM, 0), ("a.go", 7, OF_THE_PROGRAM, 8), ("a.go", 12, OF_THE_PROGRAM, 13),
-        ("b.go", 4, OF_THE_PROGRAM, 0), ("a.go", 4, OF_A_LIBRARY, 0), ("a.go", 2, OF_THE_PROGRAM, 0),
-    ],
-)  # fmt: skip
-def test_the_line_that_answers(tmp_path: Path, file: str, line: int, of: str, answers: int, monkeypatch: Patch) -> None:
-    recording, wait = at(tmp_path, ANSWER, 4)
-    (tmp_path / "b.go").write_text(ANSWER, encoding="utf-8")
-    monkeypatch.setattr(dropped_requests, "givings_at", lambda recording, wait: [Made(number=8), Made(number=13)])
-    taker = Made(stack=Stack((SourceCall("main.serve", str(tmp_path / file), line, of),), None))
-    assert dropped_requests.answer_line(recording, wait, str(tmp_path / "a.go"), cast(Any, taker)) == answers
 
 
 CONTEXT = """\

@@ -51,20 +51,19 @@ NAMES = {
         "uncounted", "overdue",
     ),
     GONE: (
-        "unmatched", "missed", "quits", "skipped", "surplus", "stilled", "elsewhere", "reread", "nested", "readahead", "unanswered",
-        "outlived",
+        "unmatched", "missed", "quits", "skipped", "surplus", "stilled", "elsewhere", "nested", "readahead",
     ),
-    SKIPS: ("kept", "opened", "counted", "buffered", "timed", "ending", "swallowed", "mute"),
+    SKIPS: ("kept", "opened", "buffered", "timed", "swallowed", "mute"),
     JOINS: ("gaveup", "guarded", "rounds", "uncased", "pooled", "stuck", "polled"),
-    SIZES: ("datagram", "frame", "held", "alone"),
+    SIZES: ("datagram",),
     SOURCES: (
-        "ordered", "departed", "oneOnly", "reentered", "unreturned", "outlasted", "unpushed", "crowded", "mistaken", "turnedAway",
-        "mixed", "spins", "unheard", "signalled", "seated", "partly",
+        "ordered", "departed", "oneOnly", "reentered", "unreturned", "unpushed", "turnedAway",
+        "mixed", "spins", "signalled", "seated", "partly",
     ),
-    HANDS: ("severed", "dismissed", "repeated", "deferred", "hidden", "mingled", "stranded"),
+    HANDS: ("severed", "dismissed", "deferred", "mingled", "stranded"),
     CHAINS: (
-        "probed", "looped", "callback", "locked", "abandoned", "readers", "copied", "withdrawn", "remembered", "refused", "shortened",
-        "fanned", "latecomer", "handshake", "verb", "header", "panicked", "lengthy", "duplicated", "shared",
+        "probed", "looped", "callback", "abandoned", "readers", "copied", "withdrawn", "remembered", "refused", "shortened",
+        "fanned", "latecomer", "handshake", "verb", "panicked", "lengthy", "duplicated", "shared",
     ),
 }  # fmt: skip
 

@@ -20,18 +20,14 @@ from netrev.findings.pools.made_channels import is_filled_by_maker
 from netrev.findings.pools.new_channels import channel_since
 from netrev.findings.pools.senders import later_giver
 from netrev.findings.pools.sibling_channels import giver_at_siblings
-from netrev.findings.pools.slots import of_slots
 from netrev.findings.pools.uncancelled_contexts import uncancelled
 from netrev.findings.pools.unclosed_channels import unclosed
 from netrev.recording.goroutines import FOR_ROOM, FOR_VALUE, PUT, TOOK, At
 from netrev.recording.recording import Recording
 from netrev.recording.waits import Name, ObjectWait, Waits, name_of_goid
 from netrev.recording.where import OF_THE_PROGRAM, Stack
-from netrev.run.index import run_of
 
 from .dispatchers import perhaps_dropped
-from .dropped_notices import dropped_notices
-from .ended_givers import ended_giver
 from .givers import has_left, have_ended, is_in, only_itself, untouched
 
 DID = {PUT: "putting a value there", TOOK: "taking one there"}
@@ -69,14 +65,14 @@ class NeedsOfChannels:
         return self._once(("balances", number), find)
 
     def besides(self, wait: ObjectWait) -> list[str]:
-        """Further sentences about a channel: values that were lost or kept, or loop variables that goroutines share."""
+        """Further sentences about a channel: values that were kept, or loop variables that goroutines share."""
 
         def find() -> list[str]:
             is_pool = any(self._balances(at.object) for at in wait.objects if self.is_buffered(at))
             kept = [] if is_pool else paths_with_an_error(self._recording, wait)
             own = wait.stack.own()
             shared = shared_variables(self._recording, own[0].file) if own and self.is_new(wait) else []
-            return dropped_notices(self._recording, wait) or kept or shared
+            return kept or shared
 
         return self._once((wait.stack.own(), wait.objects, "besides"), find)
 
@@ -86,7 +82,7 @@ class NeedsOfChannels:
         at, wanted = wait.objects[0], GIVES.get(wait.objects[0].use, "")
         balances = self._balances(at.object) if self.is_buffered(at) else []
         if not balances:
-            return self._of_slots(wait) or self._of_nested(wait) if self.is_buffered(at) else None
+            return self._of_nested(wait) if self.is_buffered(at) else None
         takes = balances[0].takes
         if takes == wanted and is_filled_by_maker(self._recording, at):
             return None
@@ -102,17 +98,6 @@ class NeedsOfChannels:
             f"{{by}} {'put a value there' if takes == PUT else 'took a value there'}, and has that yet",
             Certainty.LIKELY,
         )
-
-    def _of_slots(self, wait: ObjectWait) -> Need | None:
-        """What a goroutine needs while it waits for a slot of a semaphore. The need names a goroutine that holds a
-        slot."""
-        key = "slots", wait.stack.own(), wait.objects
-        need = self._once(
-            key, lambda: of_slots(self._recording, wait._replace(name=NOBODY), self._stacks, self._waiters)
-        )
-        if need and need.by == wait.name:
-            return of_slots(self._recording, wait, self._stacks, self._waiters)
-        return need
 
     def _of_nested(self, wait: ObjectWait) -> Need | None:
         """What a goroutine needs while it waits on a channel that was filled only once. Another goroutine took a value
@@ -217,7 +202,7 @@ class NeedsOfChannels:
                 )
                 ended = have_ended(self._recording, wait._replace(objects=(at,)))
                 return Need([f"{did}; it {self._does(latest.name, stack)}.", *ended], is_odd=True)
-        return ended_giver(run_of(self._recording), wait) or Need([])
+        return Need([])
 
     def _of_the_past(self, wait: ObjectWait, operations: list[Operation], closing: Need | None) -> Need:
         """What a goroutine needs if no waiting goroutine did the awaited operation. The need says which other goroutine
@@ -238,12 +223,7 @@ class NeedsOfChannels:
             return Need(left)
         if context := self._by_source("context", uncancelled, wait):
             return context
-        later = self._by_source("later", later_giver, wait)
-        if later is None or not later.by:
-            return (
-                ended_giver(run_of(self._recording), wait) or later or Need([], more=untouched(self._recording, wait))
-            )
-        return later
+        return self._by_source("later", later_giver, wait) or Need([], more=untouched(self._recording, wait))
 
     def _operations(self, at: At) -> list[Operation]:
         """Some goroutines that did the awaited operation on a channel. Waiting goroutines come first."""

@@ -10,13 +10,10 @@ from netrev.findings.evidence.need import Certainty, Need
 from netrev.findings.evidence.responses import SERVE, contains, server_of, socket_of
 from netrev.findings.evidence.waiters import Waiter
 from netrev.findings.handovers.dropped_answers import Hand, by_socket, dropped_answer, hands_of, is_for_values
-from netrev.findings.handovers.dropped_requests import dropped_request
 from netrev.findings.handovers.ended_hands import ended_hand
 from netrev.findings.handovers.needs_of_channels import NOBODY, NeedsOfChannels
 from netrev.findings.handovers.own_readers import of_own_reader
 from netrev.findings.http.bodies_left_open import open_bodies
-from netrev.findings.http.held_answers import held_back
-from netrev.findings.http.rpc_calls import dropped_by_rpc
 from netrev.findings.locks.groups import Groups
 from netrev.findings.locks.mutex_holders import MutexHolders
 from netrev.findings.locks.needs_of_mutexes import NeedsOfMutexes
@@ -24,7 +21,6 @@ from netrev.findings.locks.sync_conditions import single_signal, unsignalled
 from netrev.findings.pools.later_closes import closed_later
 from netrev.findings.pools.made_channels import without_receiver
 from netrev.findings.pools.stopped_timers import of_timers, timers_of_select
-from netrev.findings.source.requests_without_context import contextless_sentence
 from netrev.findings.streams.unaccepted_connections import is_dialed
 from netrev.recording.goroutines import A_CONDITION, A_SELECT, A_WAIT_GROUP, MUTEXES
 from netrev.recording.waits import A_CONNECTION, A_RESPONSE, ALL_REQUESTS, LAST_USE, Name, ObjectWait, Waits
@@ -62,8 +58,7 @@ class NeedsElsewhere:
             need = of_own_reader(self._index, wait, self._position) or need
         more = [*timers_of_select(self._recording, wait), *self._channels.besides(wait)]
         more += without_receiver(self._index, wait, self._position)
-        beside = dropped_by_rpc(self._recording, wait)
-        return need._replace(more=[*need.more, *more], beside=(*need.beside, *beside))
+        return need._replace(more=[*need.more, *more])
 
     def _of(self, waiter: Waiter, wait: ObjectWait) -> Need:
         kind = wait.kind
@@ -130,14 +125,13 @@ class NeedsElsewhere:
 
     def _of_answer(self, wait: ObjectWait) -> Need | None:
         """What a goroutine needs while it waits for an answer. Another goroutine read the answer but didn't pass it on,
-        took the request but didn't answer it, or has ended."""
+        or has ended."""
         if not is_for_values(wait):
             return None
         own = wait.stack.own()
         if own not in self._hands:
             self._hands[own] = by_socket(hands_of(self._recording, wait, self._waiters))
-        found = dropped_answer(self._index, wait, self._hands[own])
-        return found or dropped_request(self._recording, wait, self._waiters) or ended_hand(self._index, wait)
+        return dropped_answer(self._index, wait, self._hands[own]) or ended_hand(self._index, wait)
 
     def _closed_later(self, wait: ObjectWait) -> Need | None:
         """What a goroutine needs while it waits in a select: another goroutine that will later close a channel or
@@ -214,9 +208,7 @@ class NeedsElsewhere:
             return None
         does = "" if server in self._waiters else self._does(server)
         says = [f"{str(server).capitalize()} serves the request on socket {socket}; it {does}."] if does else []
-        held = held_back(self._index, socket, self._position)
-        beside = *held, *contextless_sentence(self._recording, wait)
-        return Need(says, server, "{by} serves the request", Certainty.LIKELY, more=held, beside=beside)
+        return Need(says, server, "{by} serves the request", Certainty.LIKELY)
 
     def _reads_on(self, server: Name) -> bool:
         """Whether a server's goroutine waits for the next request, and so serves no request now."""

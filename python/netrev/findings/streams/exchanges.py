@@ -15,7 +15,6 @@ from netrev.text.plurals import counted
 
 from .ends_of_reads import line_reader_of
 from .flushes import paths_around_flush, paths_without_answer, writes_through_a_buffer
-from .frame_lengths import is_of_a_body, length_sentence
 from .left_in_buffers import never_flushed
 from .unaccepted_connections import is_dialed
 
@@ -210,39 +209,27 @@ def lacking(index: RunIndex, call: Call, other: int) -> list[str]:
     ):
         return []
     is_of_a_buffer = rest & (rest - 1) == 0 and any(frame.function.startswith("bufio.") for frame in stack.calls)
-    if begin is call and is_of_a_buffer and is_of_a_body(recording, call):
-        return [
-            f"It waits for the rest of a message: {text_of_call(recording, write)} was the last there.",
-            *length_sentence(recording, write, call),
-        ]
     if begin is call and (rest < FEW_ASKED or is_of_a_buffer):
         return []
     if is_cut(recording, index, (call.socket, other)) and not are_known(index):
-        return (
-            []
-            if begin is call
-            else [
-                f"Perhaps fewer bytes were sent than it was told to read: it asked for {whole} and has {whole - rest}, so {rest} more must come. "
-                f"{text_of_call(recording, write)}, the last there, ended in step {write.last}, and nobody writes there "
-                ""
-                "now.",
-                *length_sentence(recording, write, begin),
-            ]
-        )
+        if begin is call:
+            return []
+        return [
+            f"Perhaps fewer bytes were sent than it was told to read: it asked for {whole} and has {whole - rest}, so {rest} more must come. "
+            f"{text_of_call(recording, write)}, the last there, ended in step {write.last}, and nobody writes there now."
+        ]
     if moved_at(index, call.socket, "Read", recording.length) != moved_at(index, other, "Write", recording.length):
         return []
     if begin is call:
         return [
             f"It asks for {'at least ' if rest >= MOST_ASKED else ''}{counted(rest, 'byte')}: "
             f"{text_of_call(recording, write)}, the last there, put {counted(size_of(index, write), 'byte')}, and all "
-            "of them are read.",
-            *length_sentence(recording, write, begin),
+            "of them are read."
         ]
     return [
         f"It asked for {counted(whole, 'byte')} and has {whole - rest}: {text_of_call(recording, write)}, the last "
         f"there, put {counted(size_of(index, write), 'byte')}, and all of them are read. "
-        f"{counted(rest, 'byte')} more must come.",
-        *length_sentence(recording, write, begin),
+        f"{counted(rest, 'byte')} more must come."
     ]
 
 
