@@ -12,7 +12,7 @@ from netrev.findings.evidence.need import Certainty
 
 from netrev.findings.hangs import missing_cases, needs_elsewhere, wait_graph  # fmt: skip
 from netrev.findings.http import requests as http_requests  # fmt: skip
-from netrev.findings.locks import group_counts, groups, new_readers, sync_conditions  # fmt: skip
+from netrev.findings.locks import group_counts, groups, new_readers  # fmt: skip
 from netrev.findings.source import functions as source_functions
 from netrev.findings.source import locks
 
@@ -34,30 +34,6 @@ def line_of(number: int, function: str = "main.serve", file: str = "a.go", of: s
 def stacks(*calls: SourceCall) -> Any:
     """A recording in which each step has these calls of the program."""
     return Made(lines=Made(of=lambda step: Made(own=lambda: list(calls), calls=list(calls))))
-
-
-@pytest.mark.parametrize(
-    "lines, found",
-    [
-        (["for {", "\tif a.full { // for b.empty", "\t\tbreak", "\t}", "\tc.Wait() // if d", "}"], ["if a.full {"]),
-        (["for {", "\tfor a.full() {", "\t}", "}"], ["for a.full() {"]),
-        (["for !a.full {", "\tif a.full {", "\t}", "}"], []),
-    ],
-)
-def test_conditions_in_the_body_of_a_loop_that_has_none(lines: list[str], found: list[str]) -> None:
-    assert sync_conditions.conditions_of(tuple(lines), 1) == found
-
-
-@pytest.mark.parametrize(
-    "waits, have",
-    [("1a 2a", True), ("1a 1a", False), ("1a", False), ("1a 2b", False), ("1b 2b 3b 1a 2a", True), ("1b 2b", False)],
-)
-def test_several_goroutines_have_waited_for_a_condition(waits: str, have: bool, monkeypatch: Patch) -> None:
-    of: dict[str, list[Any]] = {}
-    for wait in waits.split():
-        of.setdefault(wait[0], []).append(Made(name=wait[0], objects=wait[1]))
-    monkeypatch.setattr(sync_conditions, "waits_of", lambda recording: Made(of=of))
-    assert sync_conditions.have_waited(cast(Any, None), cast(Any, Made(objects="a"))) is have
 
 
 @pytest.mark.parametrize(

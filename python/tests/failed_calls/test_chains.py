@@ -40,7 +40,6 @@ SAYS = {
     "fanned": ("{bug} in firstOf made that channel, without room for a value, and has returned, by", "for a receiver at a channel"),
     "latecomer": ("nobody took it: fastest had returned, by {bug}.", "1 goroutine put a result into a channel that"),
     "handshake": ("was in Read at {bug} in accept", "Nobody has accepted its connection: goroutine 1, which accepts at"),
-    "verb": ("({bug} writes into it, and nothing flushes that before main.go:", "Perhaps the answer is in a buffer that wasn't flushed"),
     "panicked": ("left (*pages).show without the Done at {bug}, which isn't deferred", "a panic passes by it"),
     "lengthy": ("whose last was Read at {bug} in lines", "Perhaps a line was too long: a bufio.Scanner gives up"),
     "duplicated": ("Perhaps a second descriptor of it is open, as {bug} makes it", "and the end of the stream didn't come."),
@@ -175,7 +174,6 @@ def edited(recording: Recording, folder: Path, line: str, new: str) -> str:
         ("probed", 'text, err := ask(end, "ready")', 'text, err := keep(end, "ready")'),
         ("fanned", "return <-answers\n", "return take(answers)\n"),
         ("panicked", "p.requests.Done() // BUG panicked", "defer p.requests.Done()"),
-        ("verb", "t.out.Flush()\n", "t.out.Reset(nil)\n"),
     ],
 )
 def test_without_its_line_the_source_says_nothing(tmp_path: Path, name: str, line: str, new: str) -> None:

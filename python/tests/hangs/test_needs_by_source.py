@@ -4,12 +4,11 @@ from pathlib import Path
 
 import pytest
 
-from netrev.findings.locks.sync_conditions import single_signal, unsignalled
 from netrev.findings.pools.senders import later_giver
 from netrev.findings.pools.unclosed_channels import unclosed
 from netrev.findings.source.functions import is_same_variable, range_of
 from netrev.findings.source.locks import held_at
-from netrev.recording.goroutines import FOR_ROOM, FOR_VALUE, At
+from netrev.recording.goroutines import FOR_VALUE, At
 from netrev.recording.waits import Name, ObjectWait
 from netrev.recording.where import SourceCall as LineCall
 from netrev.recording.where import Stack
@@ -124,20 +123,6 @@ def test_variables_that_may_be_the_same() -> None:
         ("a.mu", "b.mu", False, True), ("a.mu", "b.lock", True, False), ("done", "done", True, True), ("done", "done", False, False),
     ):  # fmt: skip
         assert is_same_variable(item, other, is_near) == is_same, (item, other)
-
-
-def test_who_should_have_woken_a_goroutine(bank: Bank) -> None:
-    """The text names only functions of the same type that change what the goroutine checks and don't wait
-    themselves."""
-    wait = bank.waiting(WAIT, "(*queue).pop")
-    (text,) = unsignalled(bank.recording, wait)
-    assert f"{bank.file}:39 in (*queue).clear should have woken it: it changes items" in text
-    (alone,) = single_signal(bank.recording, wait, 3)
-    assert ":35 in (*queue).close should wake all: Signal wakes only one goroutine, and 3 still wait." in alone
-    assert single_signal(bank.recording, wait, 1) == []
-    assert (
-        unsignalled(bank.recording, bank.waiting(WAIT, "(*queue).pop", FOR_ROOM)._replace(stack=Stack((), None))) == []
-    )
 
 
 def test_a_loop_over_a_channel_that_nothing_closes(bank: Bank) -> None:

@@ -11,10 +11,9 @@ from netrev.findings.causes import first_words
 from netrev.findings.pools.leaking_paths import pattern_of
 from netrev.findings.source.functions import is_last_line
 from netrev.findings.source.skipping_paths import paths_text, skipped_paths
-from netrev.findings.streams.flushes import paths_around_flush, paths_without_answer
 from netrev.recording.goroutines import TOOK
 from netrev.recording.recording import Recording
-from netrev.recording.where import OF_THE_PROGRAM, SourceCall, Stack
+from netrev.recording.where import OF_THE_PROGRAM, SourceCall
 from tests.failed_calls.test_causes import in_the_folder_of_the_source
 from tests.hangs.test_needs import stored
 from tests.trials.go_caused import NAMES, SKIPS, bug_line
@@ -22,12 +21,10 @@ from tests.trials.go_caused import NAMES, SKIPS, bug_line
 SAYS = {
     "kept": "Perhaps they kept it on this way: {bug} returns without main.go:",
     "opened": "Perhaps it was left open on this way: {bug} goes on without a Close of the body.",
-    "buffered": "Perhaps the answer is in a buffer that wasn't flushed ({bug} goes on without main.go:187, which flushes).",
     "timed": "its timer goes off once: it was set at main.go:215 in save",
     "swallowed": "Perhaps bytes that were read before are lost: {bug} made a reader with a buffer, which got at least 64 bytes",
-    "mute": "Perhaps it gives no answer there: {bug} goes on without main.go:",
 }
-SKIPPED = re.compile(r"on these ways|on this way|goes on without|go on without|are lost|gives no answer")
+SKIPPED = re.compile(r"on these ways|on this way|goes on without|go on without|are lost")
 
 FUNCTION = "func f() error {\n\tc := take()\n%s\n}\n"
 SKIP = [
@@ -240,57 +237,6 @@ def test_bytes_that_came_since_were_not_lost() -> None:
 
 def call_at(number: int, function: str, file: str) -> SourceCall:
     return SourceCall(f"main.{function}", file, number, OF_THE_PROGRAM)
-
-
-LAMPS = """\
-package main
-
-func lamps(end net.Conn) {
-	for in.Scan() {
-		if quiet() {
-			continue
-		}
-		answer(end)
-	}
-}
-
-func answer(end net.Conn) {
-	fmt.Fprintln(end, "on")
-}
-"""
-
-
-@pytest.mark.parametrize(
-    "source, expected",
-    [
-        (LAMPS, "a.go:6 goes on without a.go:8, which answers"),
-        (LAMPS.replace("\t\t\tcontinue", "\t\t\tanswer(nil)\n\t\t\tcontinue"), ""),
-        (LAMPS.replace("\t\t\tcontinue", '\t\t\tfmt.Fprintln(end, "no")\n\t\t\tcontinue'), ""),
-        (LAMPS.replace("\t\t\tcontinue", "\t\t\treturn"), ""),
-    ],
-)
-def test_ways_without_an_answer(tmp_path: Path, source: str, expected: str) -> None:
-    file = str(tmp_path / "a.go")
-    Path(file).write_text(source, encoding="utf-8")
-    recording, at = stored("mute-bad"), source.split("\n").index("\t\tanswer(end)") + 1
-    recording.lines.written = float("inf")
-    calls = (call_at(at + 5, "answer", file), call_at(at, "lamps", file))
-    found = paths_without_answer(recording, Stack((call_at(4, "lamps", file),), None), [Stack(calls, None)])
-    assert found.replace(file, "a.go") == expected
-
-
-def test_a_flush_that_waits_for_more_requests_isnt_skipped(tmp_path: Path) -> None:
-    file = str(tmp_path / "a.go")
-    source = LAMPS.replace("answer(end)", "w.Flush()").replace("\t\tif", "\t\tw.WriteString(x)\n\t\tif")
-    recording, stack = stored("mute-bad"), Stack((call_at(4, "lamps", file),), None)
-    recording.lines.written = float("inf")
-    Path(file).write_text(source, encoding="utf-8")
-    assert (
-        paths_around_flush(recording, stack).replace(file, "a.go") == " (a.go:7 goes on without a.go:9, which flushes)"
-    )
-    other = str(tmp_path / "b.go")
-    Path(other).write_text(source.replace("quiet()", "in.Buffered() > 0"), encoding="utf-8")
-    assert paths_around_flush(recording, Stack((call_at(4, "lamps", other),), None)) == ""
 
 
 WORKER = """\

@@ -47,23 +47,23 @@ NAMES = {
     ),
     ROOTS: ("hub", "bodies", "relay", "slots", "itself"),
     TURNS: (
-        "doubled", "ring", "undone", "unflushed", "longer", "queued", "dropped", "limited", "cancelled", "expired", "unwoken", "stays",
+        "doubled", "ring", "undone", "unflushed", "longer", "queued", "dropped", "limited", "cancelled", "expired", "stays",
         "uncounted", "overdue",
     ),
     GONE: (
         "unmatched", "missed", "quits", "skipped", "surplus", "stilled", "elsewhere", "nested", "readahead",
     ),
-    SKIPS: ("kept", "opened", "buffered", "timed", "swallowed", "mute"),
+    SKIPS: ("kept", "opened", "timed", "swallowed"),
     JOINS: ("gaveup", "guarded", "rounds", "uncased", "pooled", "stuck", "polled"),
     SIZES: ("datagram",),
     SOURCES: (
-        "ordered", "departed", "oneOnly", "reentered", "unreturned", "unpushed", "turnedAway",
-        "mixed", "spins", "signalled", "seated", "partly",
+        "ordered", "departed", "reentered", "unreturned", "unpushed", "turnedAway",
+        "mixed", "spins", "seated", "partly",
     ),
     HANDS: ("severed", "dismissed", "deferred", "mingled", "stranded"),
     CHAINS: (
         "probed", "looped", "callback", "abandoned", "readers", "copied", "withdrawn", "remembered", "refused", "shortened",
-        "fanned", "latecomer", "handshake", "verb", "panicked", "lengthy", "duplicated", "shared",
+        "fanned", "latecomer", "handshake", "panicked", "lengthy", "duplicated", "shared",
     ),
 }  # fmt: skip
 

@@ -17,7 +17,6 @@ from netrev.findings.pools.balance_sentences import excess_sentence, kept_senten
 from netrev.findings.pools.balances import Balance, balances_of, give_back, has_ended
 from netrev.findings.pools.leaking_paths import gives_on_most_paths, paths_with_an_error
 from netrev.findings.pools.made_channels import is_filled_by_maker
-from netrev.findings.pools.new_channels import channel_since
 from netrev.findings.pools.senders import later_giver
 from netrev.findings.pools.sibling_channels import giver_at_siblings
 from netrev.findings.pools.uncancelled_contexts import uncancelled
@@ -141,28 +140,14 @@ class NeedsOfChannels:
 
     def is_new(self, wait: ObjectWait) -> bool:
         """Whether no goroutine has yet done what a goroutine waits for on its channels."""
-        since = self._channel_since(wait)
-        operations = (operation for at in wait.objects for operation in self._operations(at))
-        return (
-            bool(wait.objects)
-            and all(at.use for at in wait.objects)
-            and not any(operation.last >= since for operation in operations)
-        )
-
-    def _channel_since(self, wait: ObjectWait) -> int:
-        """A step before which a goroutine's channel was made; 0 if unknown. The results of `channel_since` are
-        cached here."""
-        return self._once((wait.name, wait.objects, "made"), lambda: channel_since(self._recording, wait))
+        is_known = bool(wait.objects) and all(at.use for at in wait.objects)
+        return is_known and not any(self._operations(at) for at in wait.objects)
 
     def of(self, wait: ObjectWait) -> Need:
         """What a goroutine needs from its channels, if possible from the last goroutine that did the awaited operation."""
         is_one = len(wait.objects) == 1
-        since = self._channel_since(wait)
         operations = [
-            candidate
-            for at in wait.objects
-            for candidate in self._operations(at)
-            if candidate.name != wait.name and candidate.last >= since
+            candidate for at in wait.objects for candidate in self._operations(at) if candidate.name != wait.name
         ]
         closing = self._closing(wait)
         if (

@@ -17,7 +17,6 @@ from netrev.findings.http.bodies_left_open import open_bodies
 from netrev.findings.locks.groups import Groups
 from netrev.findings.locks.mutex_holders import MutexHolders
 from netrev.findings.locks.needs_of_mutexes import NeedsOfMutexes
-from netrev.findings.locks.sync_conditions import single_signal, unsignalled
 from netrev.findings.pools.later_closes import closed_later
 from netrev.findings.pools.made_channels import without_receiver
 from netrev.findings.pools.stopped_timers import of_timers, timers_of_select
@@ -40,7 +39,6 @@ class NeedsElsewhere:
         # the goroutines that pass values on to the goroutines that wait at a line
         self._hands: dict[Hashable, dict[int, list[Hand]]] = {}
         self._later: dict[Hashable, Need | None] = {}  # what ends the selects of each line
-        self._conditions: dict[Hashable, list[str]] = {}  # the sentences about waits, keyed by their lines and objects
         self._mutexes = NeedsOfMutexes(self._recording, self._ledger, waiters, stacks, self._does)
         self._holders = MutexHolders(self._recording, waiters, position, self._does)
 
@@ -82,15 +80,13 @@ class NeedsElsewhere:
             return answer
         if len(wait.objects) == 1 and (balance := self._channels.of_balance(wait)):
             return balance
-        more = self._of_condition(wait) if kind == A_CONDITION else []
         if kind == A_SELECT and (later := self._closed_later(wait)):
             return later
         if by := self._ended_before(wait):
-            more = more or (self._channels.more_of(wait, by) if kind != A_CONDITION else [])
-            beside = tuple(more) if kind == A_CONDITION else ()
-            return Need([], by, "{by} ended its wait there before", Certainty.LIKELY, more=more, beside=beside)
+            more = self._channels.more_of(wait, by) if kind != A_CONDITION else []
+            return Need([], by, "{by} ended its wait there before", Certainty.LIKELY, more=more)
         if kind == A_CONDITION:
-            return Need([], more=more, is_odd=bool(more))
+            return Need([])
         if kind == A_WAIT_GROUP and (need := self._groups.of(waiter, self._waiters, self._does)):
             return need
         if left := self._channels.left_without(wait):
@@ -160,17 +156,6 @@ class NeedsElsewhere:
             return Need([])
         says = f"{text_of_call(self._recording, users[-1])} uses socket {closes.socket} since step {users[-1].first}."
         return Need([says], Name(users[-1].goroutine), "{by} uses the descriptor")
-
-    def _of_condition(self, wait: ObjectWait) -> list[str]:
-        """Sentences about a goroutine's wait on a sync.Cond. They name the function that should have woken this
-        goroutine, or that should have woken all waiters."""
-        key = wait.stack.own(), wait.objects
-        if key not in self._conditions:
-            alike = [waiter for waiter in self._waiters.values() if waiter.wait and waiter.wait.objects == wait.objects]
-            self._conditions[key] = unsignalled(self._recording, wait) or single_signal(
-                self._recording, wait, len(alike)
-            )
-        return self._conditions[key]
 
     def _of_connection(self) -> Need:
         """What a net/http request needs while it waits for a connection: the goroutine that perhaps has the

@@ -212,11 +212,6 @@ def skipped_paths(lines: Lines, within: range, begins: Test, ends: Test, keeps: 
     return sorted(set(walk.ways)) if walk.given else []
 
 
-def that_stay(ways: list[Way]) -> list[Way]:
-    """The paths on which a goroutine continues in a function instead of leaving the function."""
-    return [way for way in ways if way.does not in (DOES["return"], DOES["end"])]
-
-
 def paths_are(ways: list[Way]) -> str:
     """The words that introduce paths: `on this way`, or `on these ways`."""
     return "on these ways" if len(ways) > 1 else "on this way"
