@@ -20,7 +20,6 @@ SAYS = {
     "dismissed": ("have all ended, from whose loop only {bug} leads.", "which put such values at main.go:"),
     "deferred": ("It is closed only as crawl returns: the defer at {bug} is in a loop.", "3 connections are kept"),
     "mingled": ("Read at {bug} in ask", "each Read gets what comes next, perhaps the answer to another's request"),
-    "stranded": ("should have closed it: {bug} returns without that.", "Nobody has put a value into other.landed"),
 }
 
 

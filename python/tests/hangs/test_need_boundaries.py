@@ -14,7 +14,7 @@ from netrev.findings.evidence.need import Certainty, Need
 from netrev.findings.handovers import dropped_answers  # fmt: skip
 from netrev.findings.hangs import hang_words, needs, needs_elsewhere  # fmt: skip
 from netrev.findings.http import cancellations  # fmt: skip
-from netrev.findings.pools import leaking_paths, unclosed_channels  # fmt: skip
+from netrev.findings.pools import leaking_paths  # fmt: skip
 from netrev.findings.streams import ends_of_reads, failed_dials, unpassed_ends, unread_bytes  # fmt: skip
 from netrev.recording.call import CLOSE, OPEN
 from netrev.recording.goroutines import ENDED, FOR_ROOM, FOR_VALUE, PUT, TOOK, ObjectUse
@@ -381,33 +381,3 @@ def test_the_last_write_of_a_relay(moved: str, wrote: int | None, monkeypatch: P
         assert (last.first if last else None) == found
     monkeypatch.setattr(unpassed_ends, "is_over", lambda index, end: False)
     assert unpassed_ends.last_write_of_relay(cast(Any, Made(by_goroutine={1: [*calls, end]})), cast(Any, end)) is None
-
-
-MAKES = [
-    "func run() {",
-    "\ts := &server{jobs: make(chan int)}",
-    "\tif bad {",
-    "\t\treturn",
-    "\t}",
-    "\tclose(s.hub.jobs)",
-    "}",
-]
-
-
-@pytest.mark.parametrize(
-    "changed, ways", [({}, [4]), ({2: "\ts := &server{}"}, []), ({4: "\t\tclose(s.hub.jobs)"}, []), ({2: "", 7: "\tjobs = make(chan int)"}, [])]
-)  # fmt: skip
-def test_ways_without_closing_a_channel_that_a_function_makes(changed: dict[int, str], ways: list[int]) -> None:
-    lines = tuple(changed.get(number, text) for number, text in enumerate(MAKES, 1))
-    found = unclosed_channels.paths_without(lines, unclosed_channels.Closing(6, False, range(1, 8)), "s.hub.jobs")
-    assert [path.number for path in found] == ways
-
-
-@pytest.mark.parametrize("number, ways", [(2, []), (7, [5])])
-def test_a_close_before_the_channel_is_made_closes_another(number: int, ways: list[int]) -> None:
-    lines = (
-        "func run() {", "\tclose(s.jobs)", "\ts.jobs = make(chan int)", "\tif bad {", "\t\treturn", "\t}", "\tclose(s.jobs)", "}",
-    )  # fmt: skip
-    found = unclosed_channels.paths_without(lines, unclosed_channels.Closing(number, False, range(1, 9)), "s.jobs")
-    assert [path.number for path in found] == ways
-    assert unclosed_channels.paths_without(lines, unclosed_channels.Closing(number, False, range(0)), "s.jobs") == []

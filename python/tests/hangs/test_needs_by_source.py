@@ -5,7 +5,6 @@ from pathlib import Path
 import pytest
 
 from netrev.findings.pools.senders import later_giver
-from netrev.findings.pools.unclosed_channels import unclosed
 from netrev.findings.source.functions import is_same_variable, range_of
 from netrev.findings.source.locks import held_at
 from netrev.recording.goroutines import FOR_VALUE, At
@@ -123,27 +122,6 @@ def test_variables_that_may_be_the_same() -> None:
         ("a.mu", "b.mu", False, True), ("a.mu", "b.lock", True, False), ("done", "done", True, True), ("done", "done", False, False),
     ):  # fmt: skip
         assert is_same_variable(item, other, is_near) == is_same, (item, other)
-
-
-def test_a_loop_over_a_channel_that_nothing_closes(bank: Bank) -> None:
-    loop = unclosed(bank.recording, bank.waiting(LOOP, "run.func1"), [])
-    assert loop is not None
-    assert loop.more == [
-        f"The loop at {bank.file}:{LOOP} ends when jobs is closed: no line of {bank.file} closes one of that name."
-    ]
-    bank.recording.lines.uses[1] = [use(3, "closed", 0)]
-    assert unclosed(bank.recording, bank.waiting(LOOP, "run.func1"), []) is None
-
-
-def test_a_goroutine_that_closes_a_channel_later(bank: Bank) -> None:
-    wait, inside = bank.waiting(DONE, "run"), Stack((bank.at(LOOP + 1, "run.func1"),), None)
-    need = unclosed(bank.recording, wait, [(Name(2), inside)])
-    assert need is not None
-    assert (need.by, need.how) == (Name(2), f"perhaps {{by}} closes that later, at {bank.file}:51")
-    nobody = unclosed(bank.recording, wait, [])
-    assert nobody is not None
-    assert (nobody.by, nobody.is_odd) == (None, True)
-    assert "Perhaps " in nobody.more[0]
 
 
 def test_a_goroutine_that_puts_a_value_later(bank: Bank) -> None:

@@ -14,7 +14,7 @@ from .test_needs import stored
 
 SAYS = {
     "datagram": "Read at {bug} in resolve, called at",
-    "ordered": "Goroutine 0 waits at {bug} in (*board).closeLate",
+    "ordered": "Shutdown at {bug} in (*board).closeLate",
     "departed": "which waits at {bug} in (*club).tell",
     "reentered": "holds it, locked at {bug}.",
     "unreturned": "Perhaps they kept it on this way: {bug} returns without main.go:",
@@ -27,7 +27,7 @@ SAYS = {
 }
 MORE = {
     "datagram": "read it into a buffer of 16 bytes",
-    "ordered": "closes b.stop later, at main.go:",
+    "ordered": "waits for the ends of all requests, and cancels none of their contexts.",
     "departed": "The goroutine that took values there has ended.",
     "mixed": "doesn't read from that. The other end has written nothing since.",
     "partly": "were never read",

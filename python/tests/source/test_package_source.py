@@ -5,10 +5,7 @@ from pathlib import Path
 
 import pytest
 
-from netrev.findings.pools.later_closes import channels_of
 from netrev.findings.pools.leaking_paths import paths_with_an_error
-from netrev.findings.pools.unclosed_channels import closings_of
-from netrev.findings.source.functions import is_inside
 from netrev.findings.source.package import place_of_variable
 from netrev.findings.streams.left_in_buffers import names_of, unflushed_in
 from netrev.recording.goroutines import FOR_ROOM, FOR_VALUE, At
@@ -199,12 +196,6 @@ def stored_waits() -> dict[Name, list[ObjectWait]]:
     return waits_of(stored("kept-bad")).of
 
 
-def test_the_cases_of_a_select() -> None:
-    lines = tuple(ALARM.splitlines())
-    number = [at for at, text in enumerate(lines, 1) if text == "	select {"][-1]
-    assert list(channels_of(lines, number)) == ["a.done", "a.wake", "ctx.Done"]
-
-
 @pytest.mark.parametrize("nth, is_kept", [(1, True), (2, False)])
 def test_a_way_that_returns_an_error_and_keeps_a_seat(
     recording: Recording, tmp_path: Path, nth: int, is_kept: bool
@@ -212,13 +203,3 @@ def test_a_way_that_returns_an_error_and_keeps_a_seat(
     at = call(tmp_path, "hall", "(*hall).enter" if nth == 1 else "(*hall).sit", "h.seats <- struct{}{}", nth)
     says = paths_with_an_error(recording, waiting(at, FOR_ROOM))
     assert says == ([f"Perhaps (*hall).enter keeps it on this way: {at.file}:10 returns without {at.file}:6, which gives it back."] if is_kept else [])  # fmt: skip
-
-
-def test_who_only_starts_a_goroutine_is_not_inside() -> None:
-    source = ("package main", "", "func run() {", "\tgo func() {", "\t\twork()", "\t}()", "\tclose(quit)", "}")
-    (closing,) = closings_of(source, SourceCall("main.run", "a.go", 5, OF_THE_PROGRAM), "quit")
-    inside = {
-        name: is_inside(source, SourceCall(f"main.run{name}", "a.go", line, OF_THE_PROGRAM), closing.within)
-        for name, line in (("", 4), (".func1", 5), (".gowrap1", 4))
-    }
-    assert inside == {"": True, ".func1": False, ".gowrap1": False}

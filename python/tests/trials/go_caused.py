@@ -60,7 +60,7 @@ NAMES = {
         "ordered", "departed", "reentered", "unreturned", "unpushed", "turnedAway",
         "mixed", "spins", "seated", "partly",
     ),
-    HANDS: ("severed", "dismissed", "deferred", "mingled", "stranded"),
+    HANDS: ("severed", "dismissed", "deferred", "mingled"),
     CHAINS: (
         "probed", "looped", "callback", "abandoned", "readers", "copied", "withdrawn", "remembered", "refused", "shortened",
         "fanned", "latecomer", "handshake", "panicked", "lengthy", "duplicated", "shared",

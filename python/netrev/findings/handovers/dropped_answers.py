@@ -10,7 +10,6 @@ from netrev.findings.evidence.call_words import text_of_call
 from netrev.findings.evidence.need import Need
 from netrev.findings.evidence.waiters import Waiter
 from netrev.findings.pools.senders import PUTS, givings_of
-from netrev.findings.pools.unclosed_channels import RECEIVE
 from netrev.findings.source.functions import Lines, indent_of, range_of, source_of, text_at
 from netrev.recording.call import Call
 from netrev.recording.goroutines import FOR_VALUE, PUT, TOOK
@@ -24,6 +23,7 @@ from netrev.text.plurals import counted
 
 from .handed_over_requests import sockets_of_request, written_for
 
+RECEIVE = re.compile(r"<-\s*([\w.]+)(?![\w.(])")
 GOES_ON = re.compile(r"\s*(continue\b|default:)")
 CONDITION = re.compile(r"\s*(?:\} else )?if\b")
 MOST_WAYS = 2

@@ -20,7 +20,6 @@ from netrev.findings.pools.made_channels import is_filled_by_maker
 from netrev.findings.pools.senders import later_giver
 from netrev.findings.pools.sibling_channels import giver_at_siblings
 from netrev.findings.pools.uncancelled_contexts import uncancelled
-from netrev.findings.pools.unclosed_channels import unclosed
 from netrev.recording.goroutines import FOR_ROOM, FOR_VALUE, PUT, TOOK, At
 from netrev.recording.recording import Recording
 from netrev.recording.waits import Name, ObjectWait, Waits, name_of_goid
@@ -149,15 +148,8 @@ class NeedsOfChannels:
         operations = [
             candidate for at in wait.objects for candidate in self._operations(at) if candidate.name != wait.name
         ]
-        closing = self._closing(wait)
-        if (
-            not operations
-            and not (closing and closing.by)
-            and (by := giver_at_siblings(self._recording, wait, self._waiters))
-        ):
+        if not operations and (by := giver_at_siblings(self._recording, wait, self._waiters)):
             return by._replace(more=self.more_of(wait, by.by)) if by.by else by
-        if closing and (closing.by or not operations):
-            return closing
         if operation := next((candidate for candidate in operations if candidate.name in self._waiters), None):
             is_last = operation.last >= max(candidate.last for candidate in operations)
             words = f"{(GIVES_WORDS if is_last else GAVE_BEFORE)[operation.what]}{place_in(operation.stack)}"
@@ -174,7 +166,7 @@ class NeedsOfChannels:
             return self._of_ended_takers(wait)
         if says := self._of_siblings(wait):
             return Need(says, is_odd=True, ended=self._ended_siblings(wait))
-        return self._of_the_past(wait, operations[:1], closing)
+        return self._of_the_past(wait, operations[:1])
 
     def _of_ended_takers(self, wait: ObjectWait) -> Need:
         """What a goroutine in a select needs: room in a channel from which only ended goroutines took values."""
@@ -189,7 +181,7 @@ class NeedsOfChannels:
                 return Need([f"{did}; it {self._does(latest.name, stack)}.", *ended], is_odd=True)
         return Need([])
 
-    def _of_the_past(self, wait: ObjectWait, operations: list[Operation], closing: Need | None) -> Need:
+    def _of_the_past(self, wait: ObjectWait, operations: list[Operation]) -> Need:
         """What a goroutine needs if no waiting goroutine did the awaited operation. The need says which other goroutine
         did it last, if any."""
         for operation in operations:
@@ -200,7 +192,7 @@ class NeedsOfChannels:
             )
             ended = f"{did}; it {does}." if (does := self._does(operation.name, operation.stack)) else f"{did}."
             gone = operation.name if has_ended(self._recording, operation.name) else None
-            return Need([ended, *((closing.more if closing else []) or have_ended(self._recording, wait))], gone=gone)
+            return Need([ended, *have_ended(self._recording, wait)], gone=gone)
         is_filled = any(is_filled_by_maker(self._recording, at) for at in wait.objects)
         if not is_filled and (itself := only_itself(self._recording, wait)):
             return Need([itself])
@@ -219,10 +211,6 @@ class NeedsOfChannels:
 
         return self._once(("given", at), find)
 
-    def _closing(self, wait: ObjectWait) -> Need | None:
-        """What a goroutine needs while it waits for a channel to be closed, found from the source."""
-        return self._by_source("closing", unclosed, wait)
-
     def _by_source(self, key: str, rule: Rule, wait: ObjectWait) -> Need | None:
         """The result of a rule that reads the source. The result is computed once for all waits at a line. If it names
         the waiting goroutine itself, it is computed again for that wait."""
@@ -232,9 +220,8 @@ class NeedsOfChannels:
         return rule(self._recording, wait, self._stacks.items()) if need and need.by == wait.name else need
 
     def more_of(self, wait: ObjectWait, by: Name) -> list[str]:
-        """Further sentences about a wait: a channel isn't closed, or an answer wasn't passed on."""
-        closing = self._closing(wait)
-        return [*(closing.more if closing else []), *perhaps_dropped(self._recording, wait, self._waiters[by])]
+        """Further sentences about a wait: an answer wasn't passed on."""
+        return perhaps_dropped(self._recording, wait, self._waiters[by])
 
     def _of_siblings(self, wait: ObjectWait) -> list[str]:
         """Sentences about goroutines that ended without doing what others from the same `go` statement did."""

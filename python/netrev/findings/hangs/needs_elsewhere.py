@@ -11,17 +11,16 @@ from netrev.findings.evidence.responses import SERVE, contains, server_of, socke
 from netrev.findings.evidence.waiters import Waiter
 from netrev.findings.handovers.dropped_answers import Hand, by_socket, dropped_answer, hands_of, is_for_values
 from netrev.findings.handovers.ended_hands import ended_hand
-from netrev.findings.handovers.needs_of_channels import NOBODY, NeedsOfChannels
+from netrev.findings.handovers.needs_of_channels import NeedsOfChannels
 from netrev.findings.handovers.own_readers import of_own_reader
 from netrev.findings.http.bodies_left_open import open_bodies
 from netrev.findings.locks.groups import Groups
 from netrev.findings.locks.mutex_holders import MutexHolders
 from netrev.findings.locks.needs_of_mutexes import NeedsOfMutexes
-from netrev.findings.pools.later_closes import closed_later
 from netrev.findings.pools.made_channels import without_receiver
 from netrev.findings.pools.stopped_timers import of_timers, timers_of_select
 from netrev.findings.streams.unaccepted_connections import is_dialed
-from netrev.recording.goroutines import A_CONDITION, A_SELECT, A_WAIT_GROUP, MUTEXES
+from netrev.recording.goroutines import A_CONDITION, A_WAIT_GROUP, MUTEXES
 from netrev.recording.waits import A_CONNECTION, A_RESPONSE, ALL_REQUESTS, LAST_USE, Name, ObjectWait, Waits
 from netrev.recording.where import OF_THE_PROGRAM, Stack
 from netrev.run.index import READING, RunIndex, back
@@ -38,7 +37,6 @@ class NeedsElsewhere:
         self._channels = NeedsOfChannels(self._recording, waits, self._ledger, waiters, dict(stacks), self._does)
         # the goroutines that pass values on to the goroutines that wait at a line
         self._hands: dict[Hashable, dict[int, list[Hand]]] = {}
-        self._later: dict[Hashable, Need | None] = {}  # what ends the selects of each line
         self._mutexes = NeedsOfMutexes(self._recording, self._ledger, waiters, stacks, self._does)
         self._holders = MutexHolders(self._recording, waiters, position, self._does)
 
@@ -80,8 +78,6 @@ class NeedsElsewhere:
             return answer
         if len(wait.objects) == 1 and (balance := self._channels.of_balance(wait)):
             return balance
-        if kind == A_SELECT and (later := self._closed_later(wait)):
-            return later
         if by := self._ended_before(wait):
             more = self._channels.more_of(wait, by) if kind != A_CONDITION else []
             return Need([], by, "{by} ended its wait there before", Certainty.LIKELY, more=more)
@@ -128,15 +124,6 @@ class NeedsElsewhere:
         if own not in self._hands:
             self._hands[own] = by_socket(hands_of(self._recording, wait, self._waiters))
         return dropped_answer(self._index, wait, self._hands[own]) or ended_hand(self._index, wait)
-
-    def _closed_later(self, wait: ObjectWait) -> Need | None:
-        """What a goroutine needs while it waits in a select: another goroutine that will later close a channel or
-        cancel a context. The result is computed once for all selects of a line."""
-        key = "later", wait.stack.own()
-        if key not in self._later:
-            self._later[key] = closed_later(self._recording, wait._replace(name=NOBODY), self._stacks())
-        need = self._later[key]
-        return closed_later(self._recording, wait, self._stacks()) if need and need.by == wait.name else need
 
     def excess_of(self, names: set[Name]) -> list[str]:
         """Sentences about these goroutines' calls, if they gave values back to a channel more often than they took
