@@ -13,7 +13,7 @@ from netrev.recording.where import SourceCall as LineCall
 from netrev.recording.where import Stack
 from tests.failed_calls.test_causes import TWO_ENDS, with_lines
 
-from .test_needs import line, use
+from .test_needs import line
 
 SOURCE = """\
 package main
@@ -36,31 +36,6 @@ func (b *bank) move(from, to *account) error {
 	return nil
 }
 
-func (q *queue) pop() {
-	for len(q.items) == 0 && !q.closed {
-		q.full.Wait()
-	}
-	q.items = q.items[1:]
-}
-
-func (q *queue) push() {
-	q.items = append(q.items, 1)
-	q.full.Signal()
-}
-
-func (q *queue) close() {
-	q.closed = true
-	q.full.Signal()
-}
-
-func (q *queue) clear() {
-	q.items = nil
-}
-
-func (p *pool) clear() {
-	p.items = nil
-}
-
 func run(jobs chan int, done chan bool) {
 	go func() {
 		for job := range jobs {
@@ -74,7 +49,7 @@ func run(jobs chan int, done chan bool) {
 	<-done
 }
 """
-NOTE, SECOND, LITERAL, WAIT, LOOP, LAST_PUT, DONE = 11, 17, 14, 23, 48, 55, 56
+NOTE, SECOND, LITERAL, LOOP, LAST_PUT, DONE = 11, 17, 14, 23, 30, 31
 
 
 class Bank:
@@ -89,9 +64,9 @@ class Bank:
     def at(self, number: int, function: str) -> LineCall:
         return line(number, function, self.file)
 
-    def waiting(self, number: int, function: str, use: str = FOR_VALUE) -> ObjectWait:
+    def waiting(self, number: int, function: str) -> ObjectWait:
         stack = Stack((self.at(number, function),), None)
-        return ObjectWait(Name(7), 1, None, "a value from a channel", stack, objects=(At(1, use),))
+        return ObjectWait(Name(7), 1, None, "a value from a channel", stack, objects=(At(1, FOR_VALUE),))
 
     def held(self, number: int, function: str) -> list[tuple[str, int]]:
         return [(held.name, held.line) for held in held_at(self.recording, self.at(number, function))]
@@ -127,10 +102,7 @@ def test_variables_that_may_be_the_same() -> None:
 def test_a_goroutine_that_puts_a_value_later(bank: Bank) -> None:
     wait, before = bank.waiting(LOOP, "run.func1"), Stack((bank.at(LAST_PUT - 1, "run"),), None)
     need = later_giver(bank.recording, wait, [(Name(2), before)])
-    assert need is not None
-    assert (need.by, need.how) == (
-        Name(2),
-        f"perhaps {{by}} puts a value there later, at {bank.file}:{LAST_PUT}",
-    )
+    how = f"perhaps {{by}} puts a value there later, at {bank.file}:{LAST_PUT}"
+    assert need is not None and (need.by, need.how) == (Name(2), how)
     behind = Stack((bank.at(DONE, "run"),), None)
     assert later_giver(bank.recording, wait, [(Name(2), behind)]) is None

@@ -11,7 +11,7 @@ from netrev.findings.causes import failed_calls
 from netrev.findings.evidence import loop_variables
 from netrev.findings.evidence.need import Need
 from netrev.findings.http import cancellations
-from netrev.findings.pools import leaking_paths, uncancelled_contexts
+from netrev.findings.pools import leaking_paths
 from netrev.recording.call import Outcome
 from netrev.recording.goroutines import CLOSED, PUT, At, ObjectUse, Park
 from netrev.recording.where import OF_A_LIBRARY, OF_GO, OF_THE_PROGRAM, SourceCall, Stack
@@ -80,48 +80,6 @@ def test_loops_share_variables_before_a_language_version(
     assert all(
         sentence.partition(" of the loop at ")[2].startswith(f"{folder}/a.go:3: the module's ") for sentence in found
     )
-
-
-CONTEXT = """\
-package main
-
-func run() {
-	ctx, cancel := context.WithCancel(all)
-	defer cancel()
-	wait(ctx)
-}
-
-func other(all, none) {
-	ctx, cancel := context.WithTimeout(all, 5)
-	wait(ctx)
-	cancel()
-	work()
-}
-"""
-IN_A_LITERAL = "func() {\n\t\tcancel()\n\t}()"
-
-
-@pytest.mark.parametrize(
-    "old, new, at, context, expected",
-    [
-        ("", "", 6, "ctx", ["5 deferred 3-7"]), ("", "", 11, "ctx", ["12 later 9-14"]), ("", "", 6, "all", []), ("", "", 11, "all", ["5 deferred 3-7", "12 later 9-14"]),
-        ("", "", 11, "no", []), ("", "", 8, "ctx", []), ("", "", 6, "s.ctx", ["5 deferred 3-7", "12 later 9-14"]),
-        ("defer cancel()", f"defer {IN_A_LITERAL}", 8, "ctx", ["6 deferred 5-7"]), ("defer cancel()", f"go {IN_A_LITERAL}", 8, "ctx", ["6 later 5-7"]),
-        ("defer cancel()", "// cancel()", 6, "ctx", []), ("defer cancel()", "s.cancel()", 6, "ctx", []), ("defer cancel()", "cancel(x)", 6, "ctx", []),
-        ("defer cancel()", "call() // cancel()", 6, "ctx", []), ("context.WithCancel", "x // context.WithCancel", 6, "ctx", []),
-        ("ctx, cancel := context.WithCancel", "s.ctx, s.cancel = context.WithCancel", 11, "ctx", ["12 later 9-14"]),
-        ("ctx, cancel := context.WithCancel(all)\n\tdefer cancel", "s.ctx, s.cancel = context.WithCancelCause(all)\n\tdefer t.cancel", 6, "t.ctx", ["5 deferred 3-7", "12 later 9-14"]),
-        ("func run()", "func run(ctx int)", 6, "ctx", ["5 deferred 3-7", "12 later 9-14"]), ("func run()", "func run(ctxs int)", 6, "ctx", ["5 deferred 3-7"]),
-    ],
-)  # fmt: skip
-@pytest.mark.parametrize("function", ["main.run", "main.run.func1"])
-def test_the_lines_that_cancel_the_context_of_a_function(
-    old: str, new: str, at: int, context: str, expected: list[str], function: str
-) -> None:
-    lines = tuple((CONTEXT.replace(old, new, 1) if old else CONTEXT).split("\n"))
-    found = uncancelled_contexts.cancels_of(lines, line_of(at, function), context)
-    cancels = [(cancel.number, "deferred" if cancel.is_deferred else "later", cancel.within) for cancel in found]
-    assert [f"{number} {how} {within.start}-{within.stop - 1}" for number, how, within in cancels] == expected
 
 
 class NoLooks:

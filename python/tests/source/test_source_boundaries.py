@@ -8,7 +8,7 @@ from typing import Any, cast
 import pytest
 
 from netrev.findings.causes import repeated_failures  # fmt: skip
-from netrev.findings.pools import leaking_paths, uncancelled_contexts  # fmt: skip
+from netrev.findings.pools import leaking_paths  # fmt: skip
 from netrev.findings.source import package as package_source  # fmt: skip
 from netrev.recording.waits import Name, ObjectWait
 from netrev.recording.where import OF_A_LIBRARY, OF_THE_PROGRAM, SourceCall, Stack
@@ -24,50 +24,7 @@ def at(folder: Path, source: str, number: int, function: str = "(*queue).pop") -
 
 def in_short(folder: Path, says: list[str]) -> list[str]:
     """The sentences without their common parts."""
-    short = [sentence.replace(f"{folder}/", "").removeprefix("Perhaps ") for sentence in says]
-    return [sentence.partition(", which the loop")[0] for sentence in short]
-
-
-CONTEXT = """\
-package main
-
-func run() {
-	ctx, cancel := context.WithCancel(all)
-	defer cancel()
-	wait(ctx)
-}
-
-func other() {
-	ctx, cancel := context.WithCancel(all)
-	_, none := context.WithCancel(all)
-	wait(ctx)
-	cancel()
-	none()
-}
-
-func given(ctx context.Context) {
-	<-ctx.Done()
-}
-
-func oneLine() {
-	ctx, cancel := context.WithCancel(all)
-	defer func() { release(); cancel() }()
-	wait(ctx)
-}
-"""
-
-
-@pytest.mark.parametrize(
-    "line, context, expected",
-    [
-        (6, "ctx", [(5, True)]), (12, "ctx", [(13, False)]), (18, "ctx", [(5, True), (13, False), (14, False), (23, True)]),
-        (24, "ctx", [(23, True)]), (6, "one", []),
-    ],
-)  # fmt: skip
-def test_the_lines_that_cancel_a_context(line: int, context: str, expected: list[tuple[int, bool]]) -> None:
-    lines = tuple(CONTEXT.split("\n"))
-    found = uncancelled_contexts.cancels_of(lines, SourceCall("main.f", "a.go", line, OF_THE_PROGRAM), context)
-    assert [(cancel.number, cancel.is_deferred) for cancel in found] == expected
+    return [sentence.replace(f"{folder}/", "").removeprefix("Perhaps ") for sentence in says]
 
 
 FETCH = """\
