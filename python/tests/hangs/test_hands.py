@@ -16,8 +16,8 @@ from tests.trials.go_caused import HANDS, NAMES, bug_line
 from .test_needs import stored
 
 SAYS = {
-    "severed": ("in (*caller).receive, from whose loop only {bug} leads", "met the end of the stream"),
-    "dismissed": ("have all ended, from whose loop only {bug} leads.", "which put such values at main.go:"),
+    "severed": ("in (*caller).receive, from whose loop {bug} leads", "met the end of the stream"),
+    "dismissed": ("have all ended, from whose loop {bug} leads.", "which put such values at main.go:"),
     "deferred": ("It is closed only as crawl returns: the defer at {bug} is in a loop.", "3 connections are kept"),
     "mingled": ("Read at {bug} in ask", "each Read gets what comes next, perhaps the answer to another's request"),
 }
