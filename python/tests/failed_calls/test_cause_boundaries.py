@@ -208,14 +208,9 @@ def test_a_goroutine_that_has_answered_and_reads_where_nothing_may_come(
     change: dict[str, Any], is_idle: bool, monkeypatch: Patch
 ) -> None:
     usual = {
-        "reads": "Read",
-        "is_kept": True,
-        "first": "Read",
-        "last": "Write",
-        "by": 1,
-        "certainty": Certainty.KNOWN,
+        "reads": "Read", "is_kept": True, "first": "Read", "last": "Write", "by": 1, "certainty": Certainty.KNOWN,
         "none": False,
-    }
+    }  # fmt: skip
     case = Made(**(usual | change))
     calls = [
         Made(name=case.first, goroutine=1, last=3, moved=4), Made(name="Read", goroutine=2, last=4, moved=4),

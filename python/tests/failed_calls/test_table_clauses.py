@@ -91,14 +91,8 @@ def test_hands_that_have_ended(change: dict[str, Any], says: bool, monkeypatch: 
 )  # fmt: skip
 def test_a_request_that_was_cut(change: dict[str, Any], says: str, monkeypatch: Patch) -> None:
     usual = {
-        "next": "Read",
-        "socket": 5,
-        "first": 12,
-        "datagram": True,
-        "wrote": True,
-        "goroutine": 1,
-        "last": 9,
-    }
+        "next": "Read", "socket": 5, "first": 12, "datagram": True, "wrote": True, "goroutine": 1, "last": 9,
+    }  # fmt: skip
     case = Made(**(usual | ({"first": 21} if "last" in change else {}) | change))
     wrote, read = Made(goroutine=case.goroutine), Made(goroutine=7, first=8, last=case.last, socket=5)
     pair = Made(write=wrote, read=read, says=lambda index: ["It was cut."])

@@ -373,14 +373,9 @@ def test_a_context_that_is_cancelled_later(at: int, is_later: bool, tmp_path: Pa
     recording = with_lines(TWO_ENDS)
     recording.lines.written = float("inf")
     wait = ObjectWait(
-        Name(7, True),
-        1,
-        None,
-        "",
-        Stack((line(4, "(*watcher).start.func1", str(file)),), None),
-        None,
+        Name(7, True), 1, None, "", Stack((line(4, "(*watcher).start.func1", str(file)),), None), None,
         (At(1, FOR_VALUE),),
-    )
+    )  # fmt: skip
     stopping = Stack((line(at, "(*watcher).stop", str(file)),), None)
     need = uncancelled(recording, wait, [(Name(8, True), stopping)])
     assert need is not None

@@ -110,15 +110,10 @@ def test_variables_that_a_loop_shares(changed: dict[int, str], start_line: int, 
 @pytest.mark.parametrize(
     "use, found",
     [
-        ((3, 9), True),
-        ((2, 9), False),
-        ((9, 5), True),
-        ((9, 6), False),
-        ((9, 3), True),
-        ((6, 7), False),
+        ((3, 9), True), ((2, 9), False), ((9, 5), True), ((9, 6), False), ((9, 3), True), ((6, 7), False),
         ((2, 2), False),
     ],
-)
+)  # fmt: skip
 def test_channels_that_a_goroutine_found_closed(use: tuple[int, int], found: bool) -> None:
     recording = with_lines(TWO_ENDS)
     recording.lines.stacks[4] = Stack((line_of(3, "main.look"),), None)
@@ -158,15 +153,9 @@ def test_what_to_type_after_a_hang(socket: int | None, is_deadlock: bool, look: 
 
 
 SELECTS = [
-    "\tselect {",
-    "\tcase <-quit:",
-    "\t}",
-    "\tselect {",
-    "\tcase sem <- 1: // <-other",
-    "\t\t<-inner",
-    "\tcase <-done:",
-    "\t}",
-]
+    "\tselect {", "\tcase <-quit:", "\t}", "\tselect {", "\tcase sem <- 1: // <-other", "\t\t<-inner",
+    "\tcase <-done:", "\t}",
+]  # fmt: skip
 
 
 @pytest.mark.parametrize(
@@ -188,14 +177,9 @@ def test_the_case_of_a_select_at_which_a_goroutine_waits(line: int, use: str, ca
 )  # fmt: skip
 def test_goroutines_that_pass_on_what_they_read(change: dict[str, Any], found: Any, monkeypatch: Patch) -> None:
     usual = {
-        "took_at": 3,
-        "took": TOOK,
-        "what": PUT,
-        "reads": "Read",
-        "of": OF_THE_PROGRAM,
-        "goid": 1,
+        "took_at": 3, "took": TOOK, "what": PUT, "reads": "Read", "of": OF_THE_PROGRAM, "goid": 1,
         "other": "main.other",
-    }
+    }  # fmt: skip
     case = Made(**(usual | change))
     monkeypatch.setattr(dropped_answers, "name_of_goid", lambda lines, goid: Name(goid))
     monkeypatch.setattr(dropped_answers, "by_source", lambda recording, wait, readers: "source")
@@ -260,15 +244,8 @@ def test_the_goroutine_that_a_reader_started_to_answer(
     change: dict[str, Any], name: int | None, monkeypatch: Patch
 ) -> None:
     usual = {
-        "name": "Read",
-        "is_under_way": True,
-        "moved": 4,
-        "ended": 5,
-        "by": 1,
-        "maker": 11,
-        "first": 5,
-        "other": 11,
-    }
+        "name": "Read", "is_under_way": True, "moved": 4, "ended": 5, "by": 1, "maker": 11, "first": 5, "other": 11,
+    }  # fmt: skip
     case = Made(**(usual | change))
     monkeypatch.setattr(needs, "name_of_goid", lambda lines, goid: Name(goid))
     goroutines = {

@@ -40,13 +40,9 @@ def waiting(objects: list[tuple[int, str]], line: int = 3, reason: str = "a rece
 )  # fmt: skip
 def test_a_channel_whose_maker_has_returned(change: dict[str, Any], says: bool, monkeypatch: Patch) -> None:
     usual = {
-        "objects": [(5, "")],
-        "reason": made_channels.A_RECEIVER,
-        "of": OF_THE_PROGRAM,
-        "local": True,
-        "returned": True,
-        "empty": False,
-    }
+        "objects": [(5, "")], "reason": made_channels.A_RECEIVER, "of": OF_THE_PROGRAM, "local": True,
+        "returned": True, "empty": False,
+    }  # fmt: skip
     case = Made(**(usual | change))
     made_at = line_of(4, "main.ask", of=case.of)
     monkeypatch.setattr(made_channels, "name_of_goid", lambda lines, goid: Name(goid))
@@ -163,17 +159,9 @@ def test_a_goroutine_that_may_have_locked_the_mutex_itself(
 
 
 OPEN_ENDS = {
-    "by": True,
-    "last": 8,
-    "used": False,
-    "closing": False,
-    "of_go": False,
-    "closed": 8,
-    "wait": True,
-    "serves": True,
-    "own": True,
-    "objects": 1,
-}
+    "by": True, "last": 8, "used": False, "closing": False, "of_go": False, "closed": 8, "wait": True, "serves": True,
+    "own": True, "objects": 1,
+}  # fmt: skip
 STAYS = ", and for nothing else: the end of the request's context doesn't end that"
 
 

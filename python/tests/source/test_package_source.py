@@ -97,12 +97,8 @@ func (h *hall) sit() error {
 def recording(tmp_path: Path) -> Recording:
     """A recording of a program with these files."""
     files = {
-        "node": NODE,
-        "service": SERVICE,
-        "link": LINK,
-        "hall": HALL,
-        "node_test": "package main\n",
-    }
+        "node": NODE, "service": SERVICE, "link": LINK, "hall": HALL, "node_test": "package main\n",
+    }  # fmt: skip
     for name, text in files.items():
         (tmp_path / f"{name}.go").write_text(text, encoding="utf-8")
     found = stored("kept-bad")
