@@ -20,7 +20,6 @@ from netrev.messages import recorder as messages
 
 from .build_errors import CopiedErrors
 from .toolchain import RecorderError
-from .trusted_files import opened_log
 
 MOST_POINTS = 2**20
 POINT_BYTES, STACK_BYTES, SPARE = 64, 4 * 2**20, 64 * 2**20

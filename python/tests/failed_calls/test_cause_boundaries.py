@@ -10,15 +10,14 @@ from netrev.findings.causes import leftovers  # fmt: skip
 from netrev.findings.datagrams import cut_datagrams  # fmt: skip
 from netrev.findings.evidence.need import Certainty
 
-from netrev.findings.handovers import dropped_notices  # fmt: skip
 from netrev.findings.hangs import missing_cases, needs_elsewhere, wait_graph  # fmt: skip
 from netrev.findings.http import requests as http_requests  # fmt: skip
-from netrev.findings.locks import group_counts, groups, new_readers, sync_conditions  # fmt: skip
+from netrev.findings.locks import group_counts, groups, new_readers  # fmt: skip
 from netrev.findings.source import functions as source_functions
 from netrev.findings.source import locks
 
 from netrev.findings.source import package as package_source  # fmt: skip
-from netrev.findings.streams import unfinished_replies, unused_sockets  # fmt: skip
+from netrev.findings.streams import unused_sockets  # fmt: skip
 from netrev.recording.call import OPEN
 from netrev.recording.goroutines import FOR_ROOM, FOR_VALUE
 from netrev.recording.waits import Name
@@ -35,56 +34,6 @@ def line_of(number: int, function: str = "main.serve", file: str = "a.go", of: s
 def stacks(*calls: SourceCall) -> Any:
     """A recording in which each step has these calls of the program."""
     return Made(lines=Made(of=lambda step: Made(own=lambda: list(calls), calls=list(calls))))
-
-
-@pytest.mark.parametrize(
-    "lines, found",
-    [
-        (["for {", "\tif a.full { // for b.empty", "\t\tbreak", "\t}", "\tc.Wait() // if d", "}"], ["if a.full {"]),
-        (["for {", "\tfor a.full() {", "\t}", "}"], ["for a.full() {"]),
-        (["for !a.full {", "\tif a.full {", "\t}", "}"], []),
-    ],
-)
-def test_conditions_in_the_body_of_a_loop_that_has_none(lines: list[str], found: list[str]) -> None:
-    assert sync_conditions.conditions_of(tuple(lines), 1) == found
-
-
-@pytest.mark.parametrize(
-    "waits, have",
-    [("1a 2a", True), ("1a 1a", False), ("1a", False), ("1a 2b", False), ("1b 2b 3b 1a 2a", True), ("1b 2b", False)],
-)
-def test_several_goroutines_have_waited_for_a_condition(waits: str, have: bool, monkeypatch: Patch) -> None:
-    of: dict[str, list[Any]] = {}
-    for wait in waits.split():
-        of.setdefault(wait[0], []).append(Made(name=wait[0], objects=wait[1]))
-    monkeypatch.setattr(sync_conditions, "waits_of", lambda recording: Made(of=of))
-    assert sync_conditions.have_waited(cast(Any, None), cast(Any, Made(objects="a"))) is have
-
-
-@pytest.mark.parametrize(
-    "line, maker", [(2, ""), (3, " (a.go:3)"), (6, " (a.go:3)"), (7, " (a.go:7)"), (9, " (a.go:7)")]
-)
-def test_the_last_line_before_a_read_that_makes_its_buffer(line: int, maker: str, monkeypatch: Patch) -> None:
-    monkeypatch.setattr(cut_datagrams, "text_at", lambda recording, call: "\tn, _, err := c.ReadFrom(buf)")
-    monkeypatch.setattr(cut_datagrams, "found_in", lambda recording, call, makes: [(3, None), (7, None), (10, None)])
-    index = cast(RunIndex, Made(recording=stacks(line_of(line))))
-    assert cut_datagrams.buffer_place(index, cast(Any, Made(first=5))) == maker
-
-
-@pytest.mark.parametrize(
-    "text, places, drops",
-    [
-        ("\tcase x.left <- v:", (None, None), True), ("\tcase x.right <- v:", (None, None), False),
-        ("\tcase x.left <- v:", ("p.Hub", "p.Hub"), True), ("\tcase x.left <- v:", ("p.Hub", "p.Pool"), False),
-        ("\tcase x.left <- v:", ("p.Hub", None), True), ("\tcase <-x.left:", (None, None), False),
-    ],
-)  # fmt: skip
-def test_a_case_that_drops_what_is_put_into_a_field(text: str, places: Any, drops: bool, monkeypatch: Patch) -> None:
-    by_name = dict(zip(("h.left", "x.left"), places))
-    monkeypatch.setattr(dropped_notices, "place_of_variable", lambda recording, call, name: by_name.get(name))
-    for default, is_dropping in (("\tdefault:", drops), ("\tcase <-done:", False)):
-        lines = ("\tselect {", text, default, "\t}")
-        assert dropped_notices.is_dropping(cast(Any, None), line_of(9), "h.left", line_of(2), lines) is is_dropping
 
 
 @pytest.mark.parametrize(
@@ -249,22 +198,6 @@ def test_connections_that_a_goroutine_has_dialed_since_and_never_used(monkeypatc
 
 
 @pytest.mark.parametrize(
-    "reads, has",
-    [
-        ([(1, 5, 9)], True), ([(2, 5, 9)], False), ([(1, 0, 9)], False), ([(1, 5, 9), (2, 6, 9)], False), ([(1, 5, 9), (2, 6, 0)], True),
-        ([(1, 5, 9), (2, 0, 9)], True), ([(1, 4, 9)], False), ([(1, 8, 9)], False), ([], False),
-    ],
-)  # fmt: skip
-def test_a_part_that_came_of_what_was_written_last(reads: list[tuple[int, int, int]], has: bool) -> None:
-    calls = [Made(name="Read", goroutine=g, first=3, last=last, moved=moved) for g, last, moved in reads]
-    call, wrote = Made(socket=3, goroutine=1, first=8), Made(first=4)
-    index = Made(
-        by_socket={3: [Made(name="Write", goroutine=1, last=7, moved=2), *calls]}, recording=stacks(line_of(4))
-    )
-    assert unfinished_replies.has_part(cast(Any, index), cast(Any, call), cast(Any, wrote)) is has
-
-
-@pytest.mark.parametrize(
     "change, is_idle",
     [
         ({}, True), ({"call": None}, False), ({"reads": "Write"}, False), ({"is_kept": False}, False), ({"last": "Read"}, False),
@@ -275,14 +208,9 @@ def test_a_goroutine_that_has_answered_and_reads_where_nothing_may_come(
     change: dict[str, Any], is_idle: bool, monkeypatch: Patch
 ) -> None:
     usual = {
-        "reads": "Read",
-        "is_kept": True,
-        "first": "Read",
-        "last": "Write",
-        "by": 1,
-        "certainty": Certainty.KNOWN,
+        "reads": "Read", "is_kept": True, "first": "Read", "last": "Write", "by": 1, "certainty": Certainty.KNOWN,
         "none": False,
-    }
+    }  # fmt: skip
     case = Made(**(usual | change))
     calls = [
         Made(name=case.first, goroutine=1, last=3, moved=4), Made(name="Read", goroutine=2, last=4, moved=4),
@@ -487,36 +415,3 @@ def test_a_reader_that_no_variable_keeps(
     )
     found = new_readers.left_reader(cast(Any, index), cast(Any, Made(first=8, socket=2, goroutine=1)), 4, 20)
     assert found == (["a.go:9, no variable keeps it"] if says else [])
-
-
-@pytest.mark.parametrize(
-    "change, says",
-    [
-        ({}, True), ({"wrote": None}, False), ({"moved": 0}, False), ({"asked": None}, False), ({"by": 5}, False), ({"has_part": False}, False),
-        ({"read": None}, False), ({"reader": 5}, False), ({"read_last": 7}, False), ({"read_last": 6}, True), ({"now": None}, False),
-        ({"now_name": "Write"}, False), ({"now_socket": 2}, False), ({"now_first": 8}, False), ({"part": False}, False),
-    ],
-)  # fmt: skip
-def test_a_reply_that_is_not_whole(change: dict[str, Any], says: bool, monkeypatch: Patch) -> None:
-    usual = {
-        "wrote": 7, "moved": 4, "asked": 3, "by": 1, "has_part": True, "read": 5, "reader": 9, "read_last": 5, "now": 12, "now_name": "Read",
-        "now_socket": 4, "now_first": 12, "part": True,
-    }  # fmt: skip
-    case = Made(**(usual | change))
-    wrote = case.wrote and Made(first=7, last=10, moved=case.moved, goroutine=9)
-    requested = case.asked and Made(first=3, goroutine=case.by)
-    now = case.now and Made(name=case.now_name, socket=case.now_socket, first=case.now_first)
-    read = case.read and Made(goroutine=case.reader, last=case.read_last)
-    part = Made(file="a.go", loop=4, ways=[], writes=8, is_inside=True)
-    monkeypatch.setattr(unfinished_replies, "has_part", lambda index, call, wrote: case.has_part)
-    monkeypatch.setattr(unfinished_replies, "reader_of", lambda index, socket, wrote, position: read)
-    monkeypatch.setattr(unfinished_replies, "parts_of", lambda index, wrote, now: iter([part] if case.part else []))
-    monkeypatch.setattr(unfinished_replies, "place_of", lambda recording, step: " at a.go:8 in menu, called at a.go:2")
-    monkeypatch.setattr(unfinished_replies, "paths_text", lambda file, ways: "a.go:6 goes on")
-    last = {4: wrote, 2: requested}
-    index = Made(
-        recording=None, last_use=lambda socket, position, names: last[socket], call_at=lambda goroutine, at: now
-    )
-    found = unfinished_replies.unfinished_reply(cast(Any, index), cast(Any, Made(socket=2, goroutine=1)), 4, 20)
-    where = "at a.go:8 in menu, in the loop at a.go:4, where a.go:6 goes on without a.go:8, which writes."
-    assert found == ([f"Perhaps the reply isn't whole: its last Write was {where}"] if says else [])

@@ -13,7 +13,6 @@ from netrev.findings.evidence.waiters import Waiter
 from netrev.findings.hangs.chains import is_elsewhere, is_still_so
 from netrev.findings.pools.left_sockets import only_uses
 from netrev.findings.pools.made_channels import is_local
-from netrev.findings.source.copied_structs import copies_of
 from netrev.recording.call import Outcome
 from netrev.recording.goroutines import A_VALUE, FOR_VALUE, PUT, TOOK, At
 from netrev.recording.recording import Recording
@@ -31,19 +30,16 @@ SAYS = {
     "probed": ("Perhaps it was left open on this way: {bug} returns without a Close.", "is still open"),
     "looped": ("It is closed only as pollAll returns: the defer at {bug} is in a loop.", "is still open"),
     "callback": ("It is still in (*peer).run, at {bug}.", "Perhaps it waits for itself: 14 bytes of Write at"),
-    "locked": ("(*store).handle returns at {bug} without an Unlock.", "and returned from (*store).handle with it locked."),
-    "abandoned": ("(*meter).count returns at {bug} without an Unlock.", "in abandoned.func1, without unlocking it."),
+    "abandoned": ("Goroutine 2 locked it at main.go:228 in (*meter).count", "in abandoned.func1, without unlocking it."),
     "readers": ("in (*table).row, called at {bug} for a mutex", "waits to lock it for writing, and goes first."),
-    "copied": ("that was locked as it was copied, as {bug} copies it.", "No goroutine has locked it."),
+    "copied": ("it is a copy of a mutex that was locked as it was copied.", "No goroutine has locked it."),
     "withdrawn": ("Its context had been cancelled at {bug} in withdrawn (goroutine 0,", "failed: cancelled."),
     "remembered": ("Dial at {bug} in (*lazy).conn.func1", "That was in a sync.Once, which calls its function once alone"),
     "refused": ("Dial at {bug} in refused (goroutine 0, step", "was never connected (ECONNREFUSED, 127.0.0.1:"),
-    "shortened": (", which {bug} sets: the server closed the connection.", "The body ended before its Content-Length"),
+    "shortened": ("Read at main.go:424 in shortened", "The body ended before its Content-Length: the server closed"),
     "fanned": ("{bug} in firstOf made that channel, without room for a value, and has returned, by", "for a receiver at a channel"),
     "latecomer": ("nobody took it: fastest had returned, by {bug}.", "1 goroutine put a result into a channel that"),
     "handshake": ("was in Read at {bug} in accept", "Nobody has accepted its connection: goroutine 1, which accepts at"),
-    "verb": ("({bug} writes into it, and nothing flushes that before main.go:", "Perhaps the answer is in a buffer that wasn't flushed"),
-    "header": ("Read at {bug} in readFrame", "asked for 7 bytes and got 3: a Read returns what has arrived."),
     "panicked": ("left (*pages).show without the Done at {bug}, which isn't deferred", "a panic passes by it"),
     "lengthy": ("whose last was Read at {bug} in lines", "Perhaps a line was too long: a bufio.Scanner gives up"),
     "duplicated": ("Perhaps a second descriptor of it is open, as {bug} makes it", "and the end of the stream didn't come."),
@@ -146,37 +142,6 @@ def test_functions_that_only_use_a_connection(tmp_path: Path, function: str, pla
     assert only_uses(recording, str(file), function, place) is is_so
 
 
-COPIES = """\
-package main
-
-type account struct {
-	lock    sync.Mutex
-	balance int
-}
-
-type other struct {
-	lock sync.Mutex
-}
-
-func (a *account) audit(o *other, count *int) {
-	n := *count
-	backup := *a
-	second := *o // and *a
-	third := a
-	same := *a == backup
-}
-"""
-
-
-def test_lines_that_copy_a_struct(tmp_path: Path) -> None:
-    file = tmp_path / "a.go"
-    file.write_text(COPIES, encoding="utf-8")
-    recording = stored("copied-bad")
-    recording.lines.written = float("inf")
-    assert list(copies_of(recording, str(file), "account")) == [f"{file}:14"]
-    assert list(copies_of(recording, str(file), "other")) == [f"{file}:15"]
-
-
 @pytest.mark.parametrize(
     "line, is_so",
     [("return <-answers", True), ("return answers", False), ("return first, answers", False), ("s.answers = answers", False),
@@ -206,18 +171,9 @@ def edited(recording: Recording, folder: Path, line: str, new: str) -> str:
 @pytest.mark.parametrize(
     "name, line, new",
     [
-        (
-            "header",
-            "size, err := strconv.Atoi(string(header))",
-            "size, err := sizeOf(header)",
-        ),  # of unknown length
-        ("header", "count, err := end.Read(body) // BUG header", "count, err := io.ReadFull(end, body)"),
         ("probed", 'text, err := ask(end, "ready")', 'text, err := keep(end, "ready")'),
         ("fanned", "return <-answers\n", "return take(answers)\n"),
-        ("copied", "*backup = *a // BUG copied", "*backup = copyOf(a)"),
-        ("locked", 'return "none" // BUG locked', 'panic("none")'),
         ("panicked", "p.requests.Done() // BUG panicked", "defer p.requests.Done()"),
-        ("verb", "t.out.Flush()\n", "t.out.Reset(nil)\n"),
     ],
 )
 def test_without_its_line_the_source_says_nothing(tmp_path: Path, name: str, line: str, new: str) -> None:

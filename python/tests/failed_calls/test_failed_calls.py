@@ -25,8 +25,7 @@ USED_AGAIN: Steps = [*CLOSES, ["pollclose", 0, 0], ["sockopen", 16, 16], ["pollo
 ON_THE_SECOND: Steps = [["rwlock", 1, 1, "r"], ["pollreset", 1, 0, "r"], ["rwunlock", 1, 1, "r"]]
 SAID: dict[str, tuple[Steps, tuple[str, ...]]] = {
     "closed while it waited": (
-        READ + PARK + CLOSES + WAKES + DESTROYS,
-        ("It was closed", "(goroutine 0, step 11)", UNDER_WAY),
+        READ + PARK + CLOSES + WAKES + DESTROYS, ("It was closed", "(goroutine 0, step 11)", UNDER_WAY),
     ),
     "closed before it began": (CLOSES + [["rwlock", 1, 0, "r"]], ("It was closed", "(goroutine 0, step 4)", BEFORE)),
     "closed between its lock and its wait": (
@@ -34,16 +33,13 @@ SAID: dict[str, tuple[Steps, tuple[str, ...]]] = {
         ("It was closed", "(goroutine 0, step 5)", UNDER_WAY),
     ),
     "shut before it began": (
-        [["closewrite", 0, 0], *LOCKS, *FAILS],
-        ("Its write side was closed", "(goroutine 0, step 4)", BEFORE),
+        [["closewrite", 0, 0], *LOCKS, *FAILS], ("Its write side was closed", "(goroutine 0, step 4)", BEFORE),
     ),
     "shut while it was under way": (
-        [*LOCKS, ["closewrite", 0, 0], *FAILS],
-        ("Its write side was closed", "(goroutine 0, step 6)", UNDER_WAY),
+        [*LOCKS, ["closewrite", 0, 0], *FAILS], ("Its write side was closed", "(goroutine 0, step 6)", UNDER_WAY),
     ),
     "in the past before it began": (
-        deadline(-1) + LATE,
-        ("A deadline in the past was set", "step 5), before it began."),
+        deadline(-1) + LATE, ("A deadline in the past was set", "step 5), before it began."),
     ),
     "in the past while it waited": (
         READ + PARK + deadline(-1) + WAKES,
@@ -54,8 +50,7 @@ SAID: dict[str, tuple[Steps, tuple[str, ...]]] = {
         ("Its deadline was set", "(goroutine 0, step 12), while it waited, 30 ns ahead."),
     ),
     "set before it began": (
-        deadline(30) + READ + PARK + PASSES + WAKES,
-        ("Its deadline was set", "(goroutine 0, step 5), 30 ns ahead."),
+        deadline(30) + READ + PARK + PASSES + WAKES, ("Its deadline was set", "(goroutine 0, step 5), 30 ns ahead."),
     ),
     "set anew": (
         deadline(30) + deadline(40) + READ + PARK + PASSES + WAKES,
@@ -74,14 +69,12 @@ SAID: dict[str, tuple[Steps, tuple[str, ...]]] = {
         ("30 ns ahead; 2 Reads went well under it, and nobody has moved it since.",),
     ),
     "after one that went well before it was set": (
-        GETS + deadline(30) + READ + PARK + PASSES + WAKES,
-        ("(goroutine 0, step 10), 30 ns ahead.",),
+        GETS + deadline(30) + READ + PARK + PASSES + WAKES, ("(goroutine 0, step 10), 30 ns ahead.",),
     ),
     "after a Write that went well": (
-        deadline(30) + LOCKS + FAILS + READ + PARK + PASSES + WAKES,
-        ("(goroutine 0, step 5), 30 ns ahead.",),
+        deadline(30) + LOCKS + FAILS + READ + PARK + PASSES + WAKES, ("(goroutine 0, step 5), 30 ns ahead.",),
     ),
-}
+}  # fmt: skip
 
 
 @pytest.mark.parametrize("steps, parts", SAID.values(), ids=SAID)

@@ -3,15 +3,17 @@ tests.trials.go_caused): the first cause has both, and a cause with a known reas
 about waits that aren't a deadlock, because a deadline ends them."""
 
 import re
+from types import SimpleNamespace as Made
+from typing import cast
 
 import pytest
 
-from netrev.findings.causes.first_output import failures_of, first_words, hangs_of, opening_words
+from netrev.findings.causes.first_output import failures_of, first_words, hangs_of
 from netrev.findings.evidence.deadlines_ahead import deadline_ahead
 from netrev.findings.evidence.need import Certainty, Need
 from netrev.findings.evidence.waiters import Waiter
 from netrev.findings.hangs.hang_words import hang_sentences
-from netrev.findings.hangs.joins import because_of
+from netrev.findings.hangs.joins import Topic, because_of, joined
 from netrev.findings.hangs.wait_graph import Hang, WaitGraph, graph_at, order, waiters_of
 from netrev.recording.goroutines import CLOSED, PUT
 from netrev.recording.recording import Recording
@@ -26,7 +28,7 @@ from .test_causes import TWO_ENDS, in_the_folder_of_the_source, with_lines, writ
 
 SAYS = {
     "gaveup": "from whose loop {bug} leads, or the end of its range over",
-    "guarded": "(*ledger).add locks it at {bug}, and returns at main.go:",
+    "guarded": "it waited at {bug} in (*ledger).add, called at",
     "rounds": "waits at {bug} in (*Bank).Move for a mutex",
     "uncased": "waits at {bug} in (*feed).write",
     "pooled": "values there at {bug} in (*pool).ask and put",
@@ -66,12 +68,19 @@ def test_a_hang_is_below_the_failed_call_that_brought_it_about() -> None:
     assert len(causes) == 1 and "more: info" not in causes[0]
 
 
+def left_locked(recording: Recording) -> tuple[WaitGraph, Hang]:
+    """The graph of a recording, and its only hang, with a reason."""
+    graph = graph_of(recording)
+    (hang,) = graph.shown
+    return graph, hang._replace(needs=[Need(["Nobody unlocked it."])])
+
+
 def test_a_hang_of_a_program_that_ended_is_below_the_failed_call_that_it_explains() -> None:
     recording = stored("guarded-bad")
-    cause = causes_of(recording)[0]
-    assert graph_of(recording).has_ended
-    assert "Goroutine 2, at the other end, was waiting then, and still is." in cause
-    assert "Perhaps nobody unlocked it" in "\n".join(opening_words(recording))
+    graph, hang = left_locked(recording)
+    (topic,) = joined(graph, [Topic(failures_of(recording)[0]), Topic(None, hang)])
+    assert graph.has_ended and topic.hang is hang
+    assert topic.because == "Goroutine 2, at the other end, was waiting then, and still is."
 
 
 def test_a_hang_of_the_goroutine_of_a_failed_call_is_below_that() -> None:
@@ -94,17 +103,14 @@ def test_a_shutdown_that_waits_for_a_request() -> None:
 
 
 def test_of_a_program_that_ended_a_mutex_that_was_left_locked_is_said_if_nothing_else_is() -> None:
-    recording = stored("guarded-bad")
-    causes_of(recording)
-    graph = graph_of(recording)
-    assert hangs_of(graph, False) == graph.shown and not hangs_of(graph, True)
+    _, hang = left_locked(stored("guarded-bad"))
+    graph = cast(WaitGraph, Made(shown=[hang], has_ended=True))
+    assert hangs_of(graph, False) == [hang] and not hangs_of(graph, True)
 
 
 def test_a_hang_that_began_later_or_has_no_reason_explains_nothing() -> None:
     recording = stored("guarded-bad")
-    causes_of(recording)
-    graph = graph_of(recording)
-    (hang,), (cause,) = graph.shown, failures_of(recording)
+    (graph, hang), (cause,) = left_locked(recording), failures_of(recording)
     later = hang._replace(roots=[hang.root._replace(since=recording.length + 1)])
     assert because_of(graph, hang, cause)
     assert not because_of(graph, later, cause)

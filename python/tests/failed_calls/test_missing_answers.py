@@ -6,42 +6,22 @@ from dataclasses import replace
 from pathlib import Path
 from typing import Any
 
-import pytest
 
 from netrev.findings.datagrams.datagrams import dropped_datagram
 from netrev.findings.http.cancellations import cancel_before, deferred_sentence
 from netrev.findings.http.late_answers import is_of_write_timeout, late_answers
 from netrev.findings.locks.new_readers import thrown_away
 from netrev.findings.streams.exchanges import perhaps_why
-from netrev.findings.streams.flushes import paths_around_flush, writes_through_a_buffer
 from netrev.recording.recording import Recording
 from netrev.recording.where import OF_GO
 from netrev.recording.where import SourceCall as LineCall
 from netrev.recording.where import Stack
 from netrev.run.index import run_of
-from tests.hangs.test_needs import line, put, stored
+from tests.hangs.test_needs import line, stored
 from tests.trials.go_caused import source_of
 
 from .test_causes import GETS, READS_ON, TWO_ENDS, UNLOCKS, in_the_folder_of_the_source, with_lines
 
-FLUSHES = """\
-package main
-
-func (s *session) loop() {
-	for {
-		line, err := s.in.ReadString('\\n')
-		if err != nil {
-			continue
-		}
-		if line == "" {
-			fmt.Fprintln(s.out, "NIL")
-			continue
-		}
-		fmt.Fprintln(s.out, line)
-		s.out.Flush()
-	}
-}
-"""
 READER = """\
 package main
 
@@ -61,42 +41,6 @@ def file_of(folder: Path, source: str) -> str:
     path = folder / "a.go"
     path.write_text(source, encoding="utf-8")
     return str(path)
-
-
-def ways(folder: Path, source: str) -> str:
-    recording, file = with_lines(TWO_ENDS), file_of(folder, source)
-    recording.lines.written = float("inf")
-    return paths_around_flush(recording, Stack((line(5, "(*session).loop", file),), None)).replace(file, "a.go")
-
-
-def test_a_continue_behind_what_is_written(folder: Path) -> None:
-    """A `continue` after a failed read wrote nothing."""
-    assert ways(folder, FLUSHES) == " (a.go:11 goes on without a.go:14, which flushes)"
-
-
-@pytest.mark.parametrize(
-    "old, new",
-    [
-        ("\t\t\tcontinue\n\t\t}\n\t\tfmt", "\t\t}\n\t\tfmt"),
-        ("s.out.Flush()", "s.done()"),
-        ("\t\ts.out.F", "\t\tdefer s.out.F"),
-    ],
-)
-def test_no_way_round_it(folder: Path, old: str, new: str) -> None:
-    assert old in FLUSHES
-    assert ways(folder, FLUSHES.replace(old, new)) == ""
-
-
-@pytest.mark.parametrize(
-    "source, is_buffered", [(FLUSHES, True), (FLUSHES.replace("s.out.Flush()", "s.done()"), False)], ids=["yes", "no"]
-)
-def test_a_function_that_writes_through_a_buffer(folder: Path, source: str, is_buffered: bool) -> None:
-    recording, file = with_lines(TWO_ENDS), file_of(folder, source)
-    recording.lines.written = float("inf")
-    stack = Stack((line(5, "(*session).loop", file),), None)
-    assert writes_through_a_buffer(recording, stack) is is_buffered
-    recording.lines.written = 0
-    assert writes_through_a_buffer(recording, stack) is None
 
 
 def test_requests_of_the_same_form_were_answered() -> None:

@@ -61,20 +61,19 @@ def test_the_hangs_of_a_table(position: int, shown: list[str], idle: int, rest: 
 @pytest.mark.parametrize(
     "change, says",
     [
-        ({}, True), ({"of": OF_A_LIBRARY}, False), ({"own": False}, False), ({"use": FOR_ROOM}, False), ({"objects": 2}, False), ({"what": TOOK}, True), ({"last": 5}, False), ({"last": 4}, True),
+        ({}, True), ({"of": OF_A_LIBRARY}, False), ({"own": False}, False), ({"use": FOR_ROOM}, False), ({"objects": 2}, False), ({"what": TOOK}, True), ({"object": 5}, False),
         ({"object": 6}, True), ({"ended": (7,)}, False), ({"hands": ()}, False), ({"name": 7}, False), ({"hands": (7,)}, True),
     ],
 )  # fmt: skip
 def test_hands_that_have_ended(change: dict[str, Any], says: bool, monkeypatch: Patch) -> None:
     usual = {
-        "of": OF_THE_PROGRAM, "own": True, "use": FOR_VALUE, "objects": 1, "what": PUT, "last": 4, "object": 5, "ended": (7, 8), "hands": (7, 8), "name": 1,
+        "of": OF_THE_PROGRAM, "own": True, "use": FOR_VALUE, "objects": 1, "what": PUT, "object": 6, "ended": (7, 8), "hands": (7, 8), "name": 1,
     }  # fmt: skip
-    case = Made(**(usual | ({"last": 6} if "what" in change or "object" in change else {}) | change))
-    monkeypatch.setattr(ended_hands, "channel_since", lambda recording, wait: 5)
+    case = Made(**(usual | ({"object": 5} if "what" in change else {}) | change))
     monkeypatch.setattr(ended_hands, "hands_at", lambda index, line: [Made(name=Name(hand)) for hand in case.hands])
     monkeypatch.setattr(ended_hands, "has_ended", lambda recording, name: name.number in case.ended)
     monkeypatch.setattr(ended_hands, "sentence_of", lambda index, hands: ["They ended."])
-    uses = {case.object: [ObjectUse(case.object, 3, case.what, 1, 1, 1, case.last, 1, 1)]}
+    uses = {case.object: [ObjectUse(case.object, 3, case.what, 1, 1, 1, 4, 1, 1)]}
     stack = Stack((line_of(3, of=case.of),) if case.own else (), None)
     wait = ObjectWait(Name(case.name), 5, None, "a value", stack, None, (At(5, case.use),) * case.objects)
     need = ended_hands.ended_hand(cast(Any, Made(recording=Made(lines=Made(uses=uses)))), wait)
@@ -86,21 +85,14 @@ def test_hands_that_have_ended(change: dict[str, Any], says: bool, monkeypatch: 
 @pytest.mark.parametrize(
     "change, says",
     [
-        ({}, "read on in step 12 (ways)."), ({"ways": ""}, "read on in step 12."), ({"next": "Write"}, "It was cut."), ({"socket": 4}, "It was cut."), ({"first": 9}, "It was cut."),
-        ({"datagram": False}, "last"), ({"wrote": False}, "last"), ({"goroutine": 2}, "last"), ({"last": 20}, "read on in step 21 (ways)."), ({"last": 21}, "last"),
+        ({}, "read on in step 12."), ({"next": "Write"}, "It was cut."), ({"socket": 4}, "It was cut."), ({"first": 9}, "It was cut."),
+        ({"datagram": False}, "last"), ({"wrote": False}, "last"), ({"goroutine": 2}, "last"), ({"last": 20}, "read on in step 21."), ({"last": 21}, "last"),
     ],
 )  # fmt: skip
 def test_a_request_that_was_cut(change: dict[str, Any], says: str, monkeypatch: Patch) -> None:
     usual = {
-        "ways": "ways",
-        "next": "Read",
-        "socket": 5,
-        "first": 12,
-        "datagram": True,
-        "wrote": True,
-        "goroutine": 1,
-        "last": 9,
-    }
+        "next": "Read", "socket": 5, "first": 12, "datagram": True, "wrote": True, "goroutine": 1, "last": 9,
+    }  # fmt: skip
     case = Made(**(usual | ({"first": 21} if "last" in change else {}) | change))
     wrote, read = Made(goroutine=case.goroutine), Made(goroutine=7, first=8, last=case.last, socket=5)
     pair = Made(write=wrote, read=read, says=lambda index: ["It was cut."])
@@ -108,8 +100,6 @@ def test_a_request_that_was_cut(change: dict[str, Any], says: str, monkeypatch: 
     monkeypatch.setattr(cut_datagrams, "is_datagram", lambda index, socket: case.datagram)
     monkeypatch.setattr(cut_datagrams, "cut_datagrams", lambda index: (other, pair))
     monkeypatch.setattr(cut_datagrams, "last_cut", lambda index, call: ["last"])
-    monkeypatch.setattr(cut_datagrams, "paths_without_answer", lambda recording, stack, writes: case.ways)
-    monkeypatch.setattr(cut_datagrams, "writes_of", lambda index, read: set())
     index = Made(
         recording=Made(lines=Made(of=lambda step: None)), last_use=lambda socket, step, names: wrote if case.wrote else None,
         by_goroutine={7: [read, Made(first=case.first, name=case.next, socket=case.socket)]},

@@ -11,7 +11,7 @@ import time
 import pytest
 
 from dev.fuzz.generators.logs import binary
-from netrev_go.log.logfile import HEADER_BYTES, Header, copy_of, log_of, read_log
+from netrev_go.log.logfile import Header, copy_of, log_of, read_log
 from netrev_go.log.notes import ARMED, PARKED
 from netrev_go.log.points import Log, Point, PointKind
 from netrev_go.log.source_lines import OF_GO, OF_THE_PROGRAM, Calls, LineCall

@@ -12,9 +12,8 @@ from netrev.findings.evidence.need import Certainty, Need
 
 from netrev.findings.handovers import dropped_answers  # fmt: skip
 from netrev.findings.hangs import hang_words, needs, needs_elsewhere  # fmt: skip
-from netrev.findings.http import cancellations, unsent_requests  # fmt: skip
-from netrev.findings.locks import skipped_done  # fmt: skip
-from netrev.findings.pools import leaking_paths, unclosed_channels  # fmt: skip
+from netrev.findings.http import cancellations  # fmt: skip
+from netrev.findings.pools import leaking_paths  # fmt: skip
 from netrev.findings.streams import ends_of_reads, failed_dials, unpassed_ends, unread_bytes  # fmt: skip
 from netrev.recording.call import CLOSE, OPEN
 from netrev.recording.goroutines import ENDED, FOR_ROOM, FOR_VALUE, PUT, TOOK, ObjectUse
@@ -38,7 +37,7 @@ NOTHING = cast(Any, None)
 def test_its_own_reader_is_named_if_nothing_surer_is(
     need: Need, own: Name | None, by: Name | None, monkeypatch: Patch
 ) -> None:
-    for name in ("timers_of_select", "without_receiver", "dropped_by_rpc"):
+    for name in ("timers_of_select", "without_receiver"):
         monkeypatch.setattr(needs_elsewhere, name, lambda *rest: [])
     monkeypatch.setattr(needs_elsewhere, "of_own_reader", lambda *rest: Need([], own) if own else None)
     whole = Made(
@@ -52,14 +51,13 @@ def test_its_own_reader_is_named_if_nothing_surer_is(
 
 
 def test_sentences_beside_those_of_a_need(monkeypatch: Patch) -> None:
-    for name in ("timers_of_select", "without_receiver", "dropped_by_rpc"):
+    for name in ("timers_of_select", "without_receiver"):
         monkeypatch.setattr(needs_elsewhere, name, lambda *rest, name=name: [name])
-    need = Need(["Why."], more=["more"], beside=("beside",))
+    need = Need(["Why."], more=["more"])
     channels = Made(besides=lambda wait: ["besides"])
     whole = Made(_of=lambda waiter, wait: need, _index=None, _position=9, _recording=None, _channels=channels)
     found = needs_elsewhere.NeedsElsewhere.of(cast(Any, whole), NOTHING, NOTHING)
-    assert found.says == ["Why."] and found.beside == ("beside", "dropped_by_rpc")
-    assert found.more == ["more", "timers_of_select", "besides", "without_receiver"]
+    assert found.says == ["Why."] and found.more == ["more", "timers_of_select", "besides", "without_receiver"]
 
 
 @pytest.mark.parametrize(
@@ -94,15 +92,10 @@ def test_bytes_that_nobody_reads(change: dict[str, Any], count: int | None, monk
 @pytest.mark.parametrize(
     "use, found",
     [
-        ((3, 9), True),
-        ((2, 9), False),
-        ((9, 5), True),
-        ((9, 6), False),
-        ((9, 3), True),
-        ((6, 7), False),
+        ((3, 9), True), ((2, 9), False), ((9, 5), True), ((9, 6), False), ((9, 3), True), ((6, 7), False),
         ((2, 2), False),
     ],
-)
+)  # fmt: skip
 def test_channels_that_a_goroutine_found_closed(use: tuple[int, int], found: bool) -> None:
     recording = with_lines(TWO_ENDS)
     recording.lines.stacks[4] = Stack((line_of(3, "main.look"),), None)
@@ -142,15 +135,9 @@ def test_what_to_type_after_a_hang(socket: int | None, is_deadlock: bool, look: 
 
 
 SELECTS = [
-    "\tselect {",
-    "\tcase <-quit:",
-    "\t}",
-    "\tselect {",
-    "\tcase sem <- 1: // <-other",
-    "\t\t<-inner",
-    "\tcase <-done:",
-    "\t}",
-]
+    "\tselect {", "\tcase <-quit:", "\t}", "\tselect {", "\tcase sem <- 1: // <-other", "\t\t<-inner",
+    "\tcase <-done:", "\t}",
+]  # fmt: skip
 
 
 @pytest.mark.parametrize(
@@ -172,14 +159,9 @@ def test_the_case_of_a_select_at_which_a_goroutine_waits(line: int, use: str, ca
 )  # fmt: skip
 def test_goroutines_that_pass_on_what_they_read(change: dict[str, Any], found: Any, monkeypatch: Patch) -> None:
     usual = {
-        "took_at": 3,
-        "took": TOOK,
-        "what": PUT,
-        "reads": "Read",
-        "of": OF_THE_PROGRAM,
-        "goid": 1,
+        "took_at": 3, "took": TOOK, "what": PUT, "reads": "Read", "of": OF_THE_PROGRAM, "goid": 1,
         "other": "main.other",
-    }
+    }  # fmt: skip
     case = Made(**(usual | change))
     monkeypatch.setattr(dropped_answers, "name_of_goid", lambda lines, goid: Name(goid))
     monkeypatch.setattr(dropped_answers, "by_source", lambda recording, wait, readers: "source")
@@ -234,38 +216,6 @@ def test_what_a_read_looks_for(change: dict[str, Any], says: list[str], monkeypa
 
 
 @pytest.mark.parametrize(
-    "took, done, every, puts, missing, says",
-    [
-        (4, 3, 3, 4, 1, "rounds"), (4, 4, 4, 4, 1, "unput"), (4, 4, 5, 4, 1, "perhaps"), (4, 4, 4, 5, 1, "perhaps"), (4, 3, 3, 4, 2, "perhaps"),
-        (4, 4, 4, 4, 0, "rounds"), (0, 0, 0, 0, 0, "perhaps"),
-    ],
-)  # fmt: skip
-def test_a_loop_that_skips_done_or_gets_too_little(
-    took: int, done: int, every: int, puts: int, missing: int, says: str, monkeypatch: Patch
-) -> None:
-    rounds = skipped_done.Rounds(line_of(9), 3, 4, line_of(10))
-
-    def use(what: str, often: int, stack: int) -> Any:
-        return Made(what=what, often=often, stack=stack)
-
-    monkeypatch.setattr(skipped_done, "rounds_of", lambda recording, stack: rounds if stack == 1 else None)
-    monkeypatch.setattr(skipped_done, "is_by", lambda recording, use, rounds: use.stack == 1)
-    monkeypatch.setattr(skipped_done, "is_at", lambda recording, use, rounds: True)
-    monkeypatch.setattr(skipped_done, "is_free", lambda recording, waits, use, position: True)
-    monkeypatch.setattr(skipped_done, "count_sentence", lambda recording, count: "count")
-    monkeypatch.setattr(skipped_done, "rounds_sentence", lambda *rest: ["rounds"])
-    monkeypatch.setattr(skipped_done, "unput_sentence", lambda *rest: ["unput"])
-    monkeypatch.setattr(skipped_done, "perhaps_skipped", lambda *rest: ["count", "perhaps"])
-    uses = {5: [use(TOOK, took, 3), use(PUT, puts, 3)] if took else []}
-    recording = Made(lines=Made(stacks={1: 1, 2: 2}, uses=uses))
-    count = Made(
-        done=[use("done", done, 1), *([use("done", every - done, 2)] if every > done else [])], missing=missing
-    )
-    found = skipped_done.skipped_done(cast(Any, recording), NOTHING, cast(Any, count), 20)
-    assert found == ["count", says]
-
-
-@pytest.mark.parametrize(
     "change, name",
     [
         ({}, 6), ({"name": "Write"}, None), ({"is_under_way": False}, None), ({"moved": 0}, None), ({"ended": 0}, None), ({"by": 2}, None),
@@ -276,15 +226,8 @@ def test_the_goroutine_that_a_reader_started_to_answer(
     change: dict[str, Any], name: int | None, monkeypatch: Patch
 ) -> None:
     usual = {
-        "name": "Read",
-        "is_under_way": True,
-        "moved": 4,
-        "ended": 5,
-        "by": 1,
-        "maker": 11,
-        "first": 5,
-        "other": 11,
-    }
+        "name": "Read", "is_under_way": True, "moved": 4, "ended": 5, "by": 1, "maker": 11, "first": 5, "other": 11,
+    }  # fmt: skip
     case = Made(**(usual | change))
     monkeypatch.setattr(needs, "name_of_goid", lambda lines, goid: Name(goid))
     goroutines = {
@@ -397,56 +340,3 @@ def test_the_last_write_of_a_relay(moved: str, wrote: int | None, monkeypatch: P
         assert (last.first if last else None) == found
     monkeypatch.setattr(unpassed_ends, "is_over", lambda index, end: False)
     assert unpassed_ends.last_write_of_relay(cast(Any, Made(by_goroutine={1: [*calls, end]})), cast(Any, end)) is None
-
-
-MAKES = [
-    "func run() {",
-    "\ts := &server{jobs: make(chan int)}",
-    "\tif bad {",
-    "\t\treturn",
-    "\t}",
-    "\tclose(s.hub.jobs)",
-    "}",
-]
-
-
-@pytest.mark.parametrize(
-    "changed, ways", [({}, [4]), ({2: "\ts := &server{}"}, []), ({4: "\t\tclose(s.hub.jobs)"}, []), ({2: "", 7: "\tjobs = make(chan int)"}, [])]
-)  # fmt: skip
-def test_ways_without_closing_a_channel_that_a_function_makes(changed: dict[int, str], ways: list[int]) -> None:
-    lines = tuple(changed.get(number, text) for number, text in enumerate(MAKES, 1))
-    found = unclosed_channels.paths_without(lines, unclosed_channels.Closing(6, False, range(1, 8)), "s.hub.jobs")
-    assert [path.number for path in found] == ways
-
-
-@pytest.mark.parametrize("number, ways", [(2, []), (7, [5])])
-def test_a_close_before_the_channel_is_made_closes_another(number: int, ways: list[int]) -> None:
-    lines = (
-        "func run() {", "\tclose(s.jobs)", "\ts.jobs = make(chan int)", "\tif bad {", "\t\treturn", "\t}", "\tclose(s.jobs)", "}",
-    )  # fmt: skip
-    found = unclosed_channels.paths_without(lines, unclosed_channels.Closing(number, False, range(1, 9)), "s.jobs")
-    assert [path.number for path in found] == ways
-    assert unclosed_channels.paths_without(lines, unclosed_channels.Closing(number, False, range(0)), "s.jobs") == []
-
-
-@pytest.mark.parametrize(
-    "steps, last", [([5], 5), ([5, 7], 7), ([7, 5], 7), ([5, 8], 8), ([5, 9], 5), ([9], None), ([], None)]
-)
-def test_the_last_request_before_a_connection_was_closed(
-    steps: list[int], last: int | None, monkeypatch: Patch
-) -> None:
-    monkeypatch.setattr(unsent_requests, "contains", lambda stack, function: stack == function)
-    takes = ObjectUse(1, 7, TOOK, 1, 1, 1, 1, 1, 1)
-    puts = [ObjectUse(1, 8, PUT, 2, 1, step, step, step, step) for step in steps]
-    puts += [ObjectUse(1, 8, what, stack, 1, 8, 8, 8, 8) for what, stack in ((PUT, 3), (TOOK, 2))]
-    others = [
-        ObjectUse(2, goid, what, stack, 1, 1, 1, 1, 1)
-        for goid, what, stack in ((6, TOOK, 1), (7, PUT, 1), (7, TOOK, 3))
-    ]
-    others += [ObjectUse(2, 8, PUT, 2, 1, 6, 6, 6, 6)]
-    stacks = {1: unsent_requests.WRITE_LOOP, 2: unsent_requests.ROUND_TRIP, 3: "other"}
-    lines = Made(goid_of=lambda goroutine, step: 7, uses={1: [takes, *puts], 2: others}, stacks=stacks)
-    found = unsent_requests.request_of(
-        cast(Any, Made(recording=Made(lines=lines))), cast(Any, Made(goroutine=3, first=9))
-    )
-    assert (found.last if found else None) == last

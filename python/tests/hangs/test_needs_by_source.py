@@ -4,18 +4,16 @@ from pathlib import Path
 
 import pytest
 
-from netrev.findings.locks.sync_conditions import single_signal, unsignalled
 from netrev.findings.pools.senders import later_giver
-from netrev.findings.pools.unclosed_channels import unclosed
 from netrev.findings.source.functions import is_same_variable, range_of
 from netrev.findings.source.locks import held_at
-from netrev.recording.goroutines import FOR_ROOM, FOR_VALUE, At
+from netrev.recording.goroutines import FOR_VALUE, At
 from netrev.recording.waits import Name, ObjectWait
 from netrev.recording.where import SourceCall as LineCall
 from netrev.recording.where import Stack
 from tests.failed_calls.test_causes import TWO_ENDS, with_lines
 
-from .test_needs import line, use
+from .test_needs import line
 
 SOURCE = """\
 package main
@@ -38,31 +36,6 @@ func (b *bank) move(from, to *account) error {
 	return nil
 }
 
-func (q *queue) pop() {
-	for len(q.items) == 0 && !q.closed {
-		q.full.Wait()
-	}
-	q.items = q.items[1:]
-}
-
-func (q *queue) push() {
-	q.items = append(q.items, 1)
-	q.full.Signal()
-}
-
-func (q *queue) close() {
-	q.closed = true
-	q.full.Signal()
-}
-
-func (q *queue) clear() {
-	q.items = nil
-}
-
-func (p *pool) clear() {
-	p.items = nil
-}
-
 func run(jobs chan int, done chan bool) {
 	go func() {
 		for job := range jobs {
@@ -76,7 +49,7 @@ func run(jobs chan int, done chan bool) {
 	<-done
 }
 """
-NOTE, SECOND, LITERAL, WAIT, LOOP, LAST_PUT, DONE = 11, 17, 14, 23, 48, 55, 56
+NOTE, SECOND, LITERAL, LOOP, LAST_PUT, DONE = 11, 17, 14, 23, 30, 31
 
 
 class Bank:
@@ -91,9 +64,9 @@ class Bank:
     def at(self, number: int, function: str) -> LineCall:
         return line(number, function, self.file)
 
-    def waiting(self, number: int, function: str, use: str = FOR_VALUE) -> ObjectWait:
+    def waiting(self, number: int, function: str) -> ObjectWait:
         stack = Stack((self.at(number, function),), None)
-        return ObjectWait(Name(7), 1, None, "a value from a channel", stack, objects=(At(1, use),))
+        return ObjectWait(Name(7), 1, None, "a value from a channel", stack, objects=(At(1, FOR_VALUE),))
 
     def held(self, number: int, function: str) -> list[tuple[str, int]]:
         return [(held.name, held.line) for held in held_at(self.recording, self.at(number, function))]
@@ -126,48 +99,10 @@ def test_variables_that_may_be_the_same() -> None:
         assert is_same_variable(item, other, is_near) == is_same, (item, other)
 
 
-def test_who_should_have_woken_a_goroutine(bank: Bank) -> None:
-    """The text names only functions of the same type that change what the goroutine checks and don't wait
-    themselves."""
-    wait = bank.waiting(WAIT, "(*queue).pop")
-    (text,) = unsignalled(bank.recording, wait)
-    assert f"{bank.file}:39 in (*queue).clear should have woken it: it changes items" in text
-    (alone,) = single_signal(bank.recording, wait, 3)
-    assert ":35 in (*queue).close should wake all: Signal wakes only one goroutine, and 3 still wait." in alone
-    assert single_signal(bank.recording, wait, 1) == []
-    assert (
-        unsignalled(bank.recording, bank.waiting(WAIT, "(*queue).pop", FOR_ROOM)._replace(stack=Stack((), None))) == []
-    )
-
-
-def test_a_loop_over_a_channel_that_nothing_closes(bank: Bank) -> None:
-    loop = unclosed(bank.recording, bank.waiting(LOOP, "run.func1"), [])
-    assert loop is not None
-    assert loop.more == [
-        f"The loop at {bank.file}:{LOOP} ends when jobs is closed: no line of {bank.file} closes one of that name."
-    ]
-    bank.recording.lines.uses[1] = [use(3, "closed", 0)]
-    assert unclosed(bank.recording, bank.waiting(LOOP, "run.func1"), []) is None
-
-
-def test_a_goroutine_that_closes_a_channel_later(bank: Bank) -> None:
-    wait, inside = bank.waiting(DONE, "run"), Stack((bank.at(LOOP + 1, "run.func1"),), None)
-    need = unclosed(bank.recording, wait, [(Name(2), inside)])
-    assert need is not None
-    assert (need.by, need.how) == (Name(2), f"perhaps {{by}} closes that later, at {bank.file}:51")
-    nobody = unclosed(bank.recording, wait, [])
-    assert nobody is not None
-    assert (nobody.by, nobody.is_odd) == (None, True)
-    assert "Perhaps " in nobody.more[0]
-
-
 def test_a_goroutine_that_puts_a_value_later(bank: Bank) -> None:
     wait, before = bank.waiting(LOOP, "run.func1"), Stack((bank.at(LAST_PUT - 1, "run"),), None)
     need = later_giver(bank.recording, wait, [(Name(2), before)])
-    assert need is not None
-    assert (need.by, need.how) == (
-        Name(2),
-        f"perhaps {{by}} puts a value there later, at {bank.file}:{LAST_PUT}",
-    )
+    how = f"perhaps {{by}} puts a value there later, at {bank.file}:{LAST_PUT}"
+    assert need is not None and (need.by, need.how) == (Name(2), how)
     behind = Stack((bank.at(DONE, "run"),), None)
     assert later_giver(bank.recording, wait, [(Name(2), behind)]) is None

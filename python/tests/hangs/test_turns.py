@@ -56,10 +56,6 @@ REASONS = {
         r"^Its deadline was set at {} in expired.func1, .* 80 ms ahead\.$",
         r"^Write at main.go:\d+ in ask, .* came after the other end was closed, in step \d+: nobody read it\.$",
     ),
-    "unwoken": (
-        r"^Perhaps {} in \(\*mailbox\).close should have woken it: it changes closed, which the loop around the Wait tests, and that function "
-        r"calls neither Signal nor Broadcast\.$",
-    ),
     "stays": (
         r"^Perhaps a deadlock: two goroutines wait for one another\.$",
         r"^Goroutine 0 waits at {} in \(\*relay\).stop, .*; perhaps for goroutine \d+, which calls Done at main.go:\d+ as it ends\.$",

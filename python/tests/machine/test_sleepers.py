@@ -17,7 +17,6 @@ from netrev.text.contents import Limits
 Wrong = Callable[[pytest.MonkeyPatch], None]
 LIMITS = Limits(3, 1, 1, 1)
 SOME = 100_000  # worlds, if a wrong machine isn't found out earlier
-LAWS = ("awake", "timed", "fits")
 
 
 def numbered(world: World) -> World:

@@ -23,16 +23,11 @@ from netrev.text.contents import Contents, Limits, Step
 from netrev.text.writer import write_plain
 
 THEMES = (
-    "waitbegin pollevent pollreset",
-    "waitbegin pollevent sysread syswrite",
-    "waitbegin pollevent arrive peerclose",
-    "waitbegin syswrite drain closewrite",
-    "waitbegin pollevent pollreset evict pollclose pollopen",
-    "incref rwlock increfclose",
-    "incref rwlock increfclose decref rwunlock exit spawn",
-    "setdeadline tick pop fire",
+    "waitbegin pollevent pollreset", "waitbegin pollevent sysread syswrite", "waitbegin pollevent arrive peerclose",
+    "waitbegin syswrite drain closewrite", "waitbegin pollevent pollreset evict pollclose pollopen",
+    "incref rwlock increfclose", "incref rwlock increfclose decref rwunlock exit spawn", "setdeadline tick pop fire",
     "setdeadline tick pop fire evict pollclose pollopen",
-)
+)  # fmt: skip
 LIMITS = Limits(gor=4, sock=2, desc=2, buf=16)
 Steps = list[Step]
 Rows = dict[str, tuple[Steps, list[str]]]  # by name: steps, and the lines of one hunt
@@ -51,14 +46,12 @@ def park(g: int = 0, side: str = "r", d: int = 0) -> Steps:
 
 LOST: Rows = {
     "an event is thrown away by pollreset": (
-        OPEN + EVENT + RESET + park(),
-        ["at 8 lost-wakeup gor 0 desc 0 r event 3 taken 4 by 0"],
+        OPEN + EVENT + RESET + park(), ["at 8 lost-wakeup gor 0 desc 0 r event 3 taken 4 by 0"],
     ),
     "an event is thrown away, and a try is answered EAGAIN after it": (OPEN + EVENT + RESET + TRY + park(), []),
     "a try is answered EAGAIN after the event, before that is thrown away": (OPEN + EVENT + TRY + RESET + park(), []),
     "the try comes before the event": (
-        OPEN + TRY + EVENT + RESET + park(),
-        ["at 9 lost-wakeup gor 0 desc 0 r event 4 taken 5 by 0"],
+        OPEN + TRY + EVENT + RESET + park(), ["at 9 lost-wakeup gor 0 desc 0 r event 4 taken 5 by 0"],
     ),
     "the try reads a byte": (
         OPEN + [("arrive", 0, b"a")] + EVENT + RESET + TRY + park(),
@@ -77,35 +70,29 @@ LOST: Rows = {
         ["at 10 lost-wakeup gor 0 desc 0 r event 3 taken 4 by 0"],
     ),
     "the try is another goroutine's": (
-        OPEN + [("spawn",)] + EVENT + RESET + [("sysread", 1, 0, 4)] + park(),
-        [],
+        OPEN + [("spawn",)] + EVENT + RESET + [("sysread", 1, 0, 4)] + park(), [],
     ),
     "the event comes while it is parked": (OPEN + park() + EVENT, []),
     "the event comes while it is parked, it is woken and parks again": (
         OPEN + park() + EVENT + [("blockswap", 0)] + park(),
         ["at 12 lost-wakeup gor 0 desc 0 r event 7 taken 8 by 0"],
     ),
-    "no event": (OPEN + RESET + park(), []),
-    "it isn't parked yet": (OPEN + EVENT + RESET + park()[:3], []),
+    "no event": (OPEN + RESET + park(), []), "it isn't parked yet": (OPEN + EVENT + RESET + park()[:3], []),
     "blockarm takes the readiness": (
-        OPEN + EVENT + park()[:2] + park(),
-        ["at 9 lost-wakeup gor 0 desc 0 r event 3 taken 5 by 0"],
+        OPEN + EVENT + park()[:2] + park(), ["at 9 lost-wakeup gor 0 desc 0 r event 3 taken 5 by 0"],
     ),
     "another goroutine takes the readiness": (
         OPEN + [("spawn",)] + EVENT + [("pollreset", 1, 0, "r")] + park(),
         ["at 9 lost-wakeup gor 0 desc 0 r event 4 taken 5 by 1"],
     ),
     "two events, each thrown away": (
-        OPEN + EVENT + RESET + EVENT + RESET + park(),
-        ["at 10 lost-wakeup gor 0 desc 0 r event 5 taken 6 by 0"],
+        OPEN + EVENT + RESET + EVENT + RESET + park(), ["at 10 lost-wakeup gor 0 desc 0 r event 5 taken 6 by 0"],
     ),
     "two events, and the try is between them": (
-        OPEN + EVENT + TRY + EVENT + RESET + park(),
-        ["at 10 lost-wakeup gor 0 desc 0 r event 5 taken 6 by 0"],
+        OPEN + EVENT + TRY + EVENT + RESET + park(), ["at 10 lost-wakeup gor 0 desc 0 r event 5 taken 6 by 0"],
     ),
     "two events are thrown away at once": (
-        OPEN + EVENT + EVENT + RESET + park(),
-        ["at 9 lost-wakeup gor 0 desc 0 r event 4 taken 5 by 0"],
+        OPEN + EVENT + EVENT + RESET + park(), ["at 9 lost-wakeup gor 0 desc 0 r event 4 taken 5 by 0"],
     ),
     "an event of the other side": (OPEN + [("pollevent", 0, 1, "w", 0)] + RESET + park(), []),
     "a stale event": (OPEN + [("pollevent", 0, 2, "r", 0)] + RESET + park(), []),
@@ -128,22 +115,18 @@ LOST: Rows = {
         + [("spawn",), ("pollevent", 0, 1, "rw", 0), ("pollreset", 0, 0, "r"), ("pollreset", 1, 0, "w")]
         + TRY
         + park()
-        + park(1, "w"),
-        ["at 15 lost-wakeup gor 1 desc 0 w event 4 taken 6 by 1"],
+        + park(1, "w"), ["at 15 lost-wakeup gor 1 desc 0 w event 4 taken 6 by 1"],
     ),
     "an event for writing, and the write is answered EAGAIN": (
         OPEN
         + [("syswrite", 0, 0, b"abcd"), ("pollevent", 0, 1, "w", 0), ("pollreset", 0, 0, "w"), ("syswrite", 0, 0, b"e")]
-        + park(0, "w"),
-        [],
+        + park(0, "w"), [],
     ),
     "the descriptor is opened anew, and pollopen takes the readiness": (
-        OPEN + EVENT + CLOSE + [("pollopen", 0, 0)] + park(),
-        [],
+        OPEN + EVENT + CLOSE + [("pollopen", 0, 0)] + park(), [],
     ),
     "the descriptor is opened anew after the readiness was thrown away": (
-        OPEN + EVENT + RESET + CLOSE + [("pollopen", 0, 0)] + park(),
-        [],
+        OPEN + EVENT + RESET + CLOSE + [("pollopen", 0, 0)] + park(), [],
     ),
     "the event comes after the descriptor was opened anew": (
         OPEN + CLOSE + [("pollopen", 0, 0)] + EVENT_ANEW + RESET + park(),
@@ -170,7 +153,7 @@ LOST: Rows = {
             "at 17 lost-wakeup gor 0 desc 1 r event 6 taken 7 by 0",
         ],
     ),
-}
+}  # fmt: skip
 
 FILL: Steps = [("syswrite", 0, 0, b"abcd")]
 BYTE: Steps = [("arrive", 0, b"a")]
@@ -181,41 +164,33 @@ SLEEPS: Rows = {
     "a byte came after it parked": (OPEN + park() + BYTE, ["at 7 asleep gor 0 desc 0 r because bytes"]),
     "the byte was read": (OPEN + BYTE + TRY + park(), []),
     "one of two bytes was read": (
-        OPEN + [("arrive", 0, b"ab"), ("sysread", 0, 0, 1)] + park(),
-        ["at 8 asleep gor 0 desc 0 r because bytes"],
+        OPEN + [("arrive", 0, b"ab"), ("sysread", 0, 0, 1)] + park(), ["at 8 asleep gor 0 desc 0 r because bytes"],
     ),
     "an event came for the byte, and woke it": (OPEN + park() + BYTE + EVENT, []),
     "an event came for the byte, and was thrown away": (
-        OPEN + BYTE + EVENT + RESET + park(),
-        ["at 9 asleep gor 0 desc 0 r because bytes"],
+        OPEN + BYTE + EVENT + RESET + park(), ["at 9 asleep gor 0 desc 0 r because bytes"],
     ),
     "it isn't parked yet": (OPEN + BYTE + park()[:3], []),
     "the bytes are of another socket": (OPEN + [("sockopen", 4, 4), ("arrive", 1, b"a")] + park(), []),
     "the peer closed before it parked": (
-        OPEN + [("peerclose", 0)] + park(),
-        ["at 7 asleep gor 0 desc 0 r because end"],
+        OPEN + [("peerclose", 0)] + park(), ["at 7 asleep gor 0 desc 0 r because end"],
     ),
     "the peer closed after it parked": (
-        OPEN + park() + [("peerclose", 0)],
-        ["at 7 asleep gor 0 desc 0 r because end"],
+        OPEN + park() + [("peerclose", 0)], ["at 7 asleep gor 0 desc 0 r because end"],
     ),
     "the peer of another socket closed": (OPEN + [("sockopen", 4, 4), ("peerclose", 1)] + park(), []),
     "a byte came, and the peer closed": (
-        OPEN + BYTE + [("peerclose", 0)] + park(),
-        ["at 8 asleep gor 0 desc 0 r because bytes"],
+        OPEN + BYTE + [("peerclose", 0)] + park(), ["at 8 asleep gor 0 desc 0 r because bytes"],
     ),
     "the buffer is full": (OPEN + FILL + park(0, "w"), []),
     "there is room for one byte": (
-        OPEN + [("syswrite", 0, 0, b"abc")] + park(0, "w"),
-        ["at 7 asleep gor 0 desc 0 w because room"],
+        OPEN + [("syswrite", 0, 0, b"abc")] + park(0, "w"), ["at 7 asleep gor 0 desc 0 w because room"],
     ),
     "the buffer was full, and the peer took a byte": (
-        OPEN + FILL + park(0, "w") + [("drain", 0, 1)],
-        ["at 8 asleep gor 0 desc 0 w because room"],
+        OPEN + FILL + park(0, "w") + [("drain", 0, 1)], ["at 8 asleep gor 0 desc 0 w because room"],
     ),
     "the room is that to write": (
-        [("sockopen", 4, 2), ("pollopen", 0, 0), ("syswrite", 0, 0, b"ab")] + park(0, "w"),
-        [],
+        [("sockopen", 4, 2), ("pollopen", 0, 0), ("syswrite", 0, 0, b"ab")] + park(0, "w"), [],
     ),
     "the room isn't that to read": (
         [("sockopen", 2, 4), ("pollopen", 0, 0), ("syswrite", 0, 0, b"ab")] + park(0, "w"),
@@ -223,45 +198,36 @@ SLEEPS: Rows = {
     ),
     "the peer closed, and the buffer is full": (OPEN + FILL + [("peerclose", 0)] + park(0, "w"), []),
     "the write side is shut": (
-        OPEN + FILL + [("closewrite", 0, 0)] + park(0, "w"),
-        ["at 8 asleep gor 0 desc 0 w because shut"],
+        OPEN + FILL + [("closewrite", 0, 0)] + park(0, "w"), ["at 8 asleep gor 0 desc 0 w because shut"],
     ),
     "the write side is shut, and there is room": (
-        OPEN + [("closewrite", 0, 0)] + park(0, "w"),
-        ["at 7 asleep gor 0 desc 0 w because shut"],
+        OPEN + [("closewrite", 0, 0)] + park(0, "w"), ["at 7 asleep gor 0 desc 0 w because shut"],
     ),
     "the write side is shut, and it reads": (OPEN + [("closewrite", 0, 0)] + park(), []),
     "an event reported an error, and named the other side": (
-        OPEN + BYTE + park() + [("pollevent", 0, 1, "w", 1)],
-        ["at 8 asleep gor 0 desc 0 r because error"],
+        OPEN + BYTE + park() + [("pollevent", 0, 1, "w", 1)], ["at 8 asleep gor 0 desc 0 r because error"],
     ),
     "an error is no reason to write": (OPEN + FILL + park(0, "w") + [("pollevent", 0, 1, "r", 1)], []),
     "the next event reported none": (
-        OPEN + park() + [("pollevent", 0, 1, "w", 1), ("pollevent", 0, 1, "w", 0)],
-        [],
+        OPEN + park() + [("pollevent", 0, 1, "w", 1), ("pollevent", 0, 1, "w", 0)], [],
     ),
     "a deadline passed, and woke it": (
-        [("spawn",)] + OPEN + BYTE + park() + [("setdeadline", 1, 0, "r", -1)],
-        [],
+        [("spawn",)] + OPEN + BYTE + park() + [("setdeadline", 1, 0, "r", -1)], [],
     ),
     "the descriptor was evicted, and it is woken": ([("spawn",)] + OPEN + BYTE + park() + [("evict", 1, 0)], []),
     "the descriptor is opened anew, for a socket without bytes": (OPEN + BYTE + REUSED + park(), []),
     "the descriptor is opened anew, for a socket whose peer hasn't closed": (
-        OPEN + [("peerclose", 0)] + REUSED + park(),
-        [],
+        OPEN + [("peerclose", 0)] + REUSED + park(), [],
     ),
     "the descriptor is opened anew, and bytes came": (
-        OPEN + REUSED + [("arrive", 1, b"a")] + park(),
-        ["at 11 asleep gor 0 desc 0 r because bytes"],
+        OPEN + REUSED + [("arrive", 1, b"a")] + park(), ["at 11 asleep gor 0 desc 0 r because bytes"],
     ),
     "the descriptor is opened anew, and bytes came for the socket before": (OPEN + REUSED + BYTE + park(), []),
     "the descriptor is opened anew, for a socket with less room": (
-        OPEN + CLOSE + [("sockopen", 4, 2), ("pollopen", 0, 1), ("syswrite", 0, 1, b"ab")] + park(0, "w"),
-        [],
+        OPEN + CLOSE + [("sockopen", 4, 2), ("pollopen", 0, 1), ("syswrite", 0, 1, b"ab")] + park(0, "w"), [],
     ),
     "the error is of the descriptor's use before": (
-        OPEN + [("pollevent", 0, 1, "w", 1)] + REUSED + park(),
-        [],
+        OPEN + [("pollevent", 0, 1, "w", 1)] + REUSED + park(), [],
     ),
     "two sides of two descriptors, in their order": (
         OPEN
@@ -271,31 +237,27 @@ SLEEPS: Rows = {
         + park()
         + BYTE,
         [
-            "at 20 asleep gor 0 desc 0 r because bytes",
-            "at 20 asleep gor 1 desc 0 w because room",
+            "at 20 asleep gor 0 desc 0 r because bytes", "at 20 asleep gor 1 desc 0 w because room",
             "at 20 asleep gor 2 desc 1 r because bytes",
         ],
     ),
-}
+}  # fmt: skip
 
 SHUT: Steps = [("increfclose", 0, 0)]
 TAKEN: Steps = [("spawn",), *OPEN, ("incref", 1, 0)]  # steps 1 to 4
 HELD: Rows = {
     "another goroutine's reference of a closed socket, whose closer gave up its own": (
-        TAKEN + SHUT + [("decref", 0, 0)],
-        ["at 6 held-reference sock 0 gor 1 count 1 since 4"],
+        TAKEN + SHUT + [("decref", 0, 0)], ["at 6 held-reference sock 0 gor 1 count 1 since 4"],
     ),
     "the socket isn't closed": (TAKEN, []),
     "the closer holds its own": (
         TAKEN + SHUT,
         [
-            "at 5 held-reference sock 0 gor 0 count 1 since 5",
-            "at 5 held-reference sock 0 gor 1 count 1 since 4",
+            "at 5 held-reference sock 0 gor 0 count 1 since 5", "at 5 held-reference sock 0 gor 1 count 1 since 4",
         ],
     ),
     "given back before the close": (
-        TAKEN + [("decref", 1, 0)] + SHUT,
-        ["at 6 held-reference sock 0 gor 0 count 1 since 6"],
+        TAKEN + [("decref", 1, 0)] + SHUT, ["at 6 held-reference sock 0 gor 0 count 1 since 6"],
     ),
     "closed and freed": (TAKEN + SHUT + [("decref", 1, 0), ("decref", 0, 0)], []),
     "a reference that is refused isn't taken": (
@@ -313,22 +275,16 @@ HELD: Rows = {
     "a lock that another has is waited for and not taken": (
         TAKEN
         + [
-            ("rwlock", 1, 0, "r"),
-            ("rwlock", 0, 0, "r"),
-            ("spawn",),
-            ("increfclose", 2, 0),
-            ("release", 2),
+            ("rwlock", 1, 0, "r"), ("rwlock", 0, 0, "r"), ("spawn",), ("increfclose", 2, 0), ("release", 2),
             ("decref", 2, 0),
         ],
         ["at 10 held-reference sock 0 gor 1 count 2 since 5"],
     ),
     "a holder that is gone": (
-        TAKEN + [("exit", 1)] + SHUT + [("decref", 0, 0)],
-        ["at 7 held-reference sock 0 gor 1 count 1 since 4 gone"],
+        TAKEN + [("exit", 1)] + SHUT + [("decref", 0, 0)], ["at 7 held-reference sock 0 gor 1 count 1 since 4 gone"],
     ),
     "given back by another goroutine": (
-        TAKEN + SHUT + [("decref", 0, 0), ("decref", 0, 0)],
-        [],
+        TAKEN + SHUT + [("decref", 0, 0), ("decref", 0, 0)], [],
     ),
     "given back by another goroutine, which holds none itself": (
         TAKEN + [("spawn",), ("incref", 1, 0), ("decref", 2, 0)] + SHUT + [("decref", 0, 0)],
@@ -337,19 +293,17 @@ HELD: Rows = {
     "in the order of the goroutines' numbers": (
         [("spawn",), ("spawn",), *OPEN, ("incref", 2, 0), ("incref", 1, 0), ("incref", 2, 0)] + SHUT,
         [
-            "at 8 held-reference sock 0 gor 0 count 1 since 8",
-            "at 8 held-reference sock 0 gor 1 count 1 since 6",
+            "at 8 held-reference sock 0 gor 0 count 1 since 8", "at 8 held-reference sock 0 gor 1 count 1 since 6",
             "at 8 held-reference sock 0 gor 2 count 2 since 7",
         ],
     ),
     "two sockets, of which the second one is closed first": (
         [*OPEN, ("sockopen", 4, 4), ("increfclose", 0, 1), ("increfclose", 0, 0)],
         [
-            "at 5 held-reference sock 0 gor 0 count 1 since 5",
-            "at 5 held-reference sock 1 gor 0 count 1 since 4",
+            "at 5 held-reference sock 0 gor 0 count 1 since 5", "at 5 held-reference sock 1 gor 0 count 1 since 4",
         ],
     ),
-}
+}  # fmt: skip
 
 PASS: Steps = [("tick", 9), ("pop",), ("fire", 0)]
 
@@ -360,8 +314,7 @@ def due(g: int, mode: str, time: int) -> Step:
 
 PASSED: Rows = {
     "a deadline for reading": (
-        OPEN + [due(0, "r", 5)] + PASS,
-        ["at 6 passed-deadline desc 0 r set 3 by 0 r"],
+        OPEN + [due(0, "r", 5)] + PASS, ["at 6 passed-deadline desc 0 r set 3 by 0 r"],
     ),
     "set for both and none moved: one timer serves both sides": (
         OPEN + [due(0, "rw", 5)] + PASS,
@@ -372,8 +325,7 @@ PASSED: Rows = {
         ["at 8 passed-deadline desc 0 w set 4 by 0 rw moved 5 by 1"],
     ),
     "set for both, and the reading's is taken back": (
-        OPEN + [due(0, "rw", 5), due(0, "r", 0)] + PASS,
-        ["at 7 passed-deadline desc 0 w set 3 by 0 rw moved 4 by 0"],
+        OPEN + [due(0, "rw", 5), due(0, "r", 0)] + PASS, ["at 7 passed-deadline desc 0 w set 3 by 0 rw moved 4 by 0"],
     ),
     "set for both, and the reading's is moved twice: the first of these": (
         [("spawn",)] + OPEN + [due(0, "rw", 5), due(1, "r", 50), due(0, "r", 60)] + PASS,
@@ -384,19 +336,16 @@ PASSED: Rows = {
         ["at 7 passed-deadline desc 0 r set 4 by 0 rw", "at 7 passed-deadline desc 0 w set 4 by 0 rw"],
     ),
     "the other side's is moved after it passed": (
-        OPEN + [due(0, "w", 5)] + PASS + [due(0, "r", 50)],
-        ["at 6 passed-deadline desc 0 w set 3 by 0 w"],
+        OPEN + [due(0, "w", 5)] + PASS + [due(0, "r", 50)], ["at 6 passed-deadline desc 0 w set 3 by 0 w"],
     ),
     "each side is set alone, to the same time: one timer serves both": (
         OPEN + [due(0, "r", 5), due(0, "w", 5)] + PASS,
         [
-            "at 7 passed-deadline desc 0 r set 3 by 0 r moved 4 by 0",
-            "at 7 passed-deadline desc 0 w set 4 by 0 w",
+            "at 7 passed-deadline desc 0 r set 3 by 0 r moved 4 by 0", "at 7 passed-deadline desc 0 w set 4 by 0 w",
         ],
     ),
     "a replaced deadline, whose timer went off before and fires stale": (
-        OPEN + [due(0, "r", 5)] + PASS[:2] + [due(0, "r", 50)] + PASS[2:],
-        [],
+        OPEN + [due(0, "r", 5)] + PASS[:2] + [due(0, "r", 50)] + PASS[2:], [],
     ),
     "a replaced deadline, and the new one passes": (
         OPEN + [due(0, "r", 5)] + PASS[:2] + [due(0, "r", 1), ("fire", 0), ("tick", 10), ("pop",), ("fire", 0)],
@@ -412,29 +361,25 @@ PASSED: Rows = {
     "two that pass, in the order of their firings": (
         OPEN + [due(0, "w", 5), due(0, "r", 6), ("tick", 9), ("pop",), ("pop",), ("fire", 1), ("fire", 0)],
         [
-            "at 8 passed-deadline desc 0 r set 4 by 0 r",
-            "at 9 passed-deadline desc 0 w set 3 by 0 w moved 4 by 0",
+            "at 8 passed-deadline desc 0 r set 4 by 0 r", "at 9 passed-deadline desc 0 w set 3 by 0 w moved 4 by 0",
         ],
     ),
-}
+}  # fmt: skip
 
 WAKE: Steps = [("blockswap", 0), ("waitcheck", 0)]
 ENDED: Rows = {
     "a reset finds a deadline that was set in the past": (
-        OPEN + [due(0, "r", -1)] + RESET,
-        ["at 4 timeout gor 0 desc 0 r set 3 by 0 r"],
+        OPEN + [due(0, "r", -1)] + RESET, ["at 4 timeout gor 0 desc 0 r set 3 by 0 r"],
     ),
     "the beginning of a wait finds it": (
         [("spawn",)] + OPEN + [due(0, "rw", -1), ("waitbegin", 1, 0, "w")],
         ["at 5 timeout gor 1 desc 0 w set 4 by 0 rw"],
     ),
     "a check before parking ends no call": (
-        [("spawn",)] + OPEN + park()[:2] + [due(1, "r", -1), ("blockcheck", 0)],
-        [],
+        [("spawn",)] + OPEN + park()[:2] + [due(1, "r", -1), ("blockcheck", 0)], [],
     ),
     "the check after waking does": (
-        [("spawn",)] + OPEN + park() + [due(1, "r", -1)] + WAKE,
-        ["at 10 timeout gor 0 desc 0 r set 8 by 1 r"],
+        [("spawn",)] + OPEN + park() + [due(1, "r", -1)] + WAKE, ["at 10 timeout gor 0 desc 0 r set 8 by 1 r"],
     ),
     "a check that finds nothing": (OPEN + RESET, []),
     "a check of a closing descriptor": (OPEN + [due(0, "r", -1)] + CLOSE[:1] + RESET, []),
@@ -448,42 +393,33 @@ ENDED: Rows = {
         ["at 5 timeout gor 0 desc 0 r set 3 by 0 rw moved 4 by 0"],
     ),
     "the deadline was set twice: the last time": (
-        OPEN + [due(0, "r", -1), due(0, "r", -2)] + RESET,
-        ["at 5 timeout gor 0 desc 0 r set 4 by 0 r"],
+        OPEN + [due(0, "r", -1), due(0, "r", -2)] + RESET, ["at 5 timeout gor 0 desc 0 r set 4 by 0 r"],
     ),
-}
+}  # fmt: skip
 PARKED: Steps = [("spawn",)] + OPEN + [due(1, "r", 5)] + park() + PASS  # step 11 wakes goroutine 0
 BACK: Rows = {
     "before the goroutine took up its word": (
-        PARKED + [due(1, "r", 90)],
-        ["at 12 taken-back gor 0 desc 0 r set 4 by 1 r"],
+        PARKED + [due(1, "r", 90)], ["at 12 taken-back gor 0 desc 0 r set 4 by 1 r"],
     ),
     "before it checked why": (
-        PARKED + WAKE[:1] + [due(1, "r", 90)],
-        ["at 13 taken-back gor 0 desc 0 r set 4 by 1 r"],
+        PARKED + WAKE[:1] + [due(1, "r", 90)], ["at 13 taken-back gor 0 desc 0 r set 4 by 1 r"],
     ),
     "taken back to none": (PARKED + [due(1, "rw", 0)], ["at 12 taken-back gor 0 desc 0 r set 4 by 1 r"]),
     "twice: the first time": (
-        PARKED + [due(1, "r", 90), due(1, "r", 95)],
-        ["at 12 taken-back gor 0 desc 0 r set 4 by 1 r"],
+        PARKED + [due(1, "r", 90), due(1, "r", 95)], ["at 12 taken-back gor 0 desc 0 r set 4 by 1 r"],
     ),
     "of the other side": (PARKED + [due(1, "w", 90)], []),
     "of another goroutine's side": (PARKED + [("pollopen", 1, 0), ("setdeadline", 1, 1, "r", 90)], []),
     "nobody was parked": ([("spawn",)] + OPEN + [due(1, "r", 5)] + PASS + [due(1, "r", 90)], []),
     "it parks after the deadline passed and was set anew": (
-        OPEN + [due(0, "r", 5)] + PASS + [due(0, "r", 90), due(0, "r", 95)],
-        [],
+        OPEN + [due(0, "r", 5)] + PASS + [due(0, "r", 90), due(0, "r", 95)], [],
     ),
-}
+}  # fmt: skip
 
 ALL: dict[str, Rows] = {
-    LOST_WAKE_UP: LOST,
-    ASLEEP: SLEEPS,
-    HELD_REFERENCE: HELD,
-    PASSED_DEADLINE: PASSED,
-    TIMEOUT: ENDED,
+    LOST_WAKE_UP: LOST, ASLEEP: SLEEPS, HELD_REFERENCE: HELD, PASSED_DEADLINE: PASSED, TIMEOUT: ENDED,
     TAKEN_BACK: BACK,
-}
+}  # fmt: skip
 # The rows of the first hunt may also have lines of the second: a deadline passes before it is taken back, and a
 # goroutine that missed a wake-up sleeps although bytes may have arrived.
 TOGETHER = {(TAKEN_BACK, PASSED_DEADLINE), (LOST_WAKE_UP, ASLEEP), (ASLEEP, LOST_WAKE_UP)}
@@ -563,16 +499,8 @@ def test_row(hunt: str, steps: Steps, lines: list[str]) -> None:
 
 def test_the_hunts_come_in_their_order() -> None:
     steps = [
-        ("spawn",),
-        *OPEN,
-        due(0, "w", 5),
-        *PASS,
-        *EVENT,
-        *RESET,
-        *park(),
-        ("sockopen", 4, 4),
-        ("increfclose", 1, 1),
-    ]
+        ("spawn",), *OPEN, due(0, "w", 5), *PASS, *EVENT, *RESET, *park(), ("sockopen", 4, 4), ("increfclose", 1, 1),
+    ]  # fmt: skip
     lines, _ = suspects(text_of(steps), Observer(), HUNTS)
     assert [line.split()[2] for line in lines[:-1]] == [PASSED_DEADLINE, LOST_WAKE_UP, HELD_REFERENCE]
 

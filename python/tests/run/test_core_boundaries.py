@@ -139,13 +139,9 @@ def test_the_exit_status_is_netrev_s_own_except_after_a_page(
     web: int | None, ended: int, runs: int, errors: int, status: int, monkeypatch: Patch
 ) -> None:
     session = Made(
-        ask=lambda line: "at 0 of 9 forward",
-        begin=lambda first: None,
-        recording=None,
-        scout=None,
-        recorded=None,
+        ask=lambda line: "at 0 of 9 forward", begin=lambda first: None, recording=None, scout=None, recorded=None,
         errors=errors,
-    )
+    )  # fmt: skip
     monkeypatch.setattr(cli, "session_of", lambda *words: session)
     monkeypatch.setattr(cli, "has_prompt", lambda wanted: False)
     monkeypatch.setattr(cli, "played", lambda item, wanted: runs)
@@ -176,13 +172,9 @@ def test_a_check_outside_a_call_is_a_call_of_its_own(names: list[str], code: int
     open_calls = [Call(1, name, 3, 0, step) for step, name in enumerate(names, 5)]
     timeout = Made(due=Made(setting=Made(step=2)), passing=Made(step=4))
     notes = Made(
-        goroutine=lambda g: IDLE,
-        use_of={0: Made(socket=3)},
-        code=code,
-        timeouts=[timeout],
-        closer={3: Made(step=7)},
+        goroutine=lambda g: IDLE, use_of={0: Made(socket=3)}, code=code, timeouts=[timeout], closer={3: Made(step=7)},
         shut={},
-    )
+    )  # fmt: skip
     book = Made(
         open=defaultdict(list, {1: open_calls}),
         calls=[],

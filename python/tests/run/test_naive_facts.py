@@ -32,14 +32,9 @@ from tests.suspects.test_suspects import OPEN, recording_of
 LOCKING = {"incref": 6.0, "decref": 5.0, "rwlock": 3.0, "rwunlock": 3.0, "increfclose": 0.1, "exit": 0.1}
 TIMING = {"setdeadline": 8.0, "pollopen": 2.0, "evict": 1.5, "pollclose": 4.0}
 WAITING = {
-    "waitbegin": 8.0,
-    "pollreset": 5.0,
-    "sysread": 5.0,
-    "syswrite": 4.0,
-    "setdeadline": 4.0,
-    "evict": 0.3,
+    "waitbegin": 8.0, "pollreset": 5.0, "sysread": 5.0, "syswrite": 4.0, "setdeadline": 4.0, "evict": 0.3,
     "closewrite": 0.2,
-}
+}  # fmt: skip
 ALONE = {"tick": 3.0, "pop": 4.0, "fire": 3.0, "pollevent": 4.0, "arrive": 2.0, "drain": 2.0, "peerclose": 0.1}
 MAKING = {"spawn": 1.0, "sockopen": 0.5}
 
@@ -172,13 +167,8 @@ CLOSE_BOTH: list[list[Any]] = [
 
 def test_the_descriptor_that_was_freed_last_is_used_first() -> None:
     opens: list[list[Any]] = [
-        *OPEN,
-        ["sockopen", 16, 16],
-        ["pollopen", 0, 1],
-        *CLOSE_BOTH,
-        ["sockopen", 16, 16],
-        ["pollopen", 0, 2],
-    ]
+        *OPEN, ["sockopen", 16, 16], ["pollopen", 0, 1], *CLOSE_BOTH, ["sockopen", 16, 16], ["pollopen", 0, 2],
+    ]  # fmt: skip
     recording = recording_of([*opens, ["setdeadline", 0, 1, "r", 3], ["tick", 9], ["pop"]])
     (timer,) = timers_of(recording).values()
     assert (timer.descriptor, timer.socket, timer.set_at) == (1, 2, len(opens) + 1)

@@ -30,7 +30,7 @@ STORED = Path(__file__).with_name("lines.json")
 CAUSED = "python/tests/caused"
 NAMES = (
     "examples/first", "examples/stale-deadline", "examples/reused-descriptor", "examples/leaked-reference", "examples/real/hijacked", "examples/past-deadline",
-    *(f"{CAUSED}/{name}-bad" for name in ("hub", "gaveup", "kept", "probed", "rounds", "datagram", "outlived", "pooled", "uncased")),
+    *(f"{CAUSED}/{name}-bad" for name in ("hub", "gaveup", "kept", "probed", "rounds", "datagram", "pooled", "uncased")),
 )  # fmt: skip
 COUNT, TOGETHER = 400, 20  # the lines for a recording, and how many of them share a checksum
 LEFT_OUT = {"quit", "explore", "reduce", "report", "source", "save"}

@@ -1,4 +1,4 @@
-"""The rules about requests and answers, datagrams from other addresses, failed dials and ended contexts, clause by
+"""The rules about requests and answers, datagrams from other addresses and failed dials, clause by
 clause: a row for each clause that doesn't hold, and for each side of a boundary."""
 
 import re
@@ -9,13 +9,12 @@ from typing import Any, cast
 import pytest
 
 from netrev.findings.datagrams import undelivered_datagrams  # fmt: skip
-from netrev.findings.handovers import dropped_answers, dropped_requests  # fmt: skip
+from netrev.findings.handovers import dropped_answers  # fmt: skip
 from netrev.findings.hangs import needs_elsewhere  # fmt: skip
-from netrev.findings.http import ended_contexts  # fmt: skip
 from netrev.findings.source import functions as source_functions  # fmt: skip
 from netrev.findings.streams import exchanges, failed_dials, left_in_buffers  # fmt: skip
 from netrev.recording.call import CLOSE
-from netrev.recording.goroutines import CLOSED, PUT, TOOK, ObjectUse
+from netrev.recording.goroutines import CLOSED, PUT, ObjectUse
 from netrev.recording.waits import Name
 from netrev.recording.where import OF_GO, OF_THE_PROGRAM, SourceCall, Stack
 from tests.failed_calls.test_cause_boundaries import line_of
@@ -121,50 +120,6 @@ def test_why_a_dial_failed(change: dict[str, Any], says: str, monkeypatch: Patch
     assert found == texts[says]
 
 
-@pytest.mark.parametrize(
-    "places, function, says",
-    [(["a.go:4"], "main.run", True), ([], "main.run", False), (["a.go:4", "b.go:5"], "main.run", False), (["a.go:4"], ended_contexts.SERVE, False)],
-)  # fmt: skip
-def test_a_handler_keeps_the_context_of_its_request(
-    places: list[str], function: str, says: bool, monkeypatch: Patch
-) -> None:
-    monkeypatch.setattr(
-        ended_contexts, "places_with", lambda recording, file, pattern: places if file == "a.go" else []
-    )
-    stack = Stack((line_of(3, "main.get"), line_of(9, function, of=OF_GO)), None)
-    found = ended_contexts.kept_by_a_handler(cast(Any, None), stack)
-    text = "Perhaps it is the one that a.go:4 keeps of a request: net/http ends that as its handler returns."
-    assert found == ([text] if says else [])
-    assert ended_contexts.kept_by_a_handler(cast(Any, None), Stack((), None)) == []
-
-
-@pytest.mark.parametrize(
-    "kind, begin, since",
-    [(ended_contexts.A_CONNECTION, 6, 6), (ended_contexts.A_CONNECTION, 9, 9), (ended_contexts.A_CONNECTION, 10, 2), ("a value", 6, 2)],
-)  # fmt: skip
-@pytest.mark.parametrize("depth, is_waiting", [(0, True), (2, True), (3, False)])
-def test_a_request_whose_context_ended_as_it_waited_for_a_connection(
-    kind: str, begin: int, since: int, depth: int, is_waiting: bool, monkeypatch: Patch
-) -> None:
-    calls = [line_of(0, "net/http.get", of=OF_GO)] * depth
-    stack = Stack((*calls, line_of(0, ended_contexts.GET_CONNECTION, of=OF_GO), line_of(3, "main.ask")), None)
-    waits = Made(of={Name(4): [Made(kind=ended_contexts.A_CONNECTION, first=2), Made(kind=kind, first=begin)]})
-    monkeypatch.setattr(ended_contexts, "name_of_goid", lambda lines, goid: Name(4))
-    monkeypatch.setattr(ended_contexts, "waits_of", lambda recording: waits)
-    monkeypatch.setattr(ended_contexts, "Ledger", lambda recording, waits: None)
-    monkeypatch.setattr(ended_contexts, "open_bodies", lambda recording, ledger, waits, step: [f"since {step}"])
-    monkeypatch.setattr(ended_contexts, "of_a_handler", lambda recording, goid: [])
-    monkeypatch.setattr(ended_contexts, "kept_by_a_handler", lambda recording, stack: ["kept"])
-    ended = ended_contexts.EndedBefore(ObjectUse(5, 7, "ended", 1, 1, 9, 9, 9, 9))
-    found = ended.says(cast(Any, Made(lines=Made(stacks={1: stack}))))
-    waited = [
-        "The request at a.go:3 in ask (goroutine 4, step 9) ended while it waited for a connection: its context had ended.",
-        f"since {since}",
-    ]
-    unsent = ["The request at a.go:3 in ask (goroutine 4, step 9) wasn't sent: its context had ended before.", "kept"]
-    assert found == (waited if is_waiting else unsent)
-
-
 def test_no_lines_are_found_without_the_source(tmp_path: Path) -> None:
     recording = cast(Any, Made(lines=Made(written=float("inf"))))
     call = SourceCall("main.f", str(tmp_path / "none.go"), 3, OF_THE_PROGRAM)
@@ -232,36 +187,6 @@ def test_whether_all_requests_were_answered(
 
 
 @pytest.mark.parametrize(
-    "change, taker",
-    [
-        ({}, 8), ({"puts": 3}, None), ({"puts": 1}, None), ({"free": (7,)}, None), ({"free": (8,)}, None), ({"lines": {7: 4}}, 7), ({"lines": {}}, None), ({"waiters": (7,)}, 7),
-        ({"waiters": ()}, None), ({"own": False}, None),
-    ],
-)  # fmt: skip
-def test_the_goroutine_that_took_a_request(change: dict[str, Any], taker: int | None, monkeypatch: Patch) -> None:
-    case = Made(**({"puts": 2, "free": (7, 8), "lines": {7: 4, 8: 5}, "waiters": (7, 8), "own": True} | change))
-    monkeypatch.setattr(dropped_requests, "name_of_goid", lambda lines, goid: Name(goid))
-    monkeypatch.setattr(
-        dropped_requests, "is_free", lambda recording, use, number, waiters: number == 5 and use.goid in case.free
-    )
-    monkeypatch.setattr(
-        dropped_requests,
-        "answer_line",
-        lambda recording, wait, file, taker: case.lines.get(taker, 0) * (file == "a.go"),
-    )
-    put = ObjectUse(5, 1, PUT, 1, case.puts, 1, 1, 1, 1)
-    uses = [put, *(ObjectUse(5, goid, TOOK, 1, 1, 2, 2, goid, goid) for goid in (7, 8))]
-    wait = Made(stack=Stack((line_of(3),) if case.own else (), None))
-    waiters = {Name(goid): goid for goid in case.waiters}
-    found = dropped_requests.taker_of(
-        cast(Any, Made(lines=Made(uses={5: uses}))), cast(Any, wait), put, cast(Any, waiters)
-    )
-    assert found == (
-        dropped_requests.Taken(cast(Any, taker), uses[taker - 6], "a.go", case.lines[taker]) if taker else None
-    )
-
-
-@pytest.mark.parametrize(
     "of, flushed, places, says",
     [
         (OF_THE_PROGRAM, "", ["a.go:4", "a.go:5"], "a.go:4"), (OF_GO, "", ["a.go:4"], ""), (OF_THE_PROGRAM, "w", ["a.go:4"], ""), (OF_THE_PROGRAM, "x", ["a.go:4"], "a.go:4"),
@@ -277,20 +202,6 @@ def test_a_writer_that_no_line_flushes(of: str, flushed: str, places: list[str],
     recording = cast(Any, Made(lines=Made(of=lambda step: stacks[step])))
     assert left_in_buffers.never_flushed(recording, cast(Any, Made(first=0))) == says
     assert left_in_buffers.never_flushed(recording, cast(Any, Made(first=1))) == ""
-
-
-@pytest.mark.parametrize(
-    "last, waits_on, is_free", [(None, None, False), (-1, None, False), (9, None, True), (-1, 5, True), (-1, 6, False), (None, 5, True)]
-)  # fmt: skip
-def test_a_goroutine_that_ended_or_waits_for_the_next_request(
-    last: int | None, waits_on: int | None, is_free: bool, monkeypatch: Patch
-) -> None:
-    monkeypatch.setattr(dropped_requests, "name_of_goid", lambda lines, goid: Name(goid))
-    lines = Made(goroutines={} if last is None else {7: Made(last=last)})
-    waiter = Made(wait=None if waits_on is None else Made(objects=[Made(object=waits_on)]))
-    use = ObjectUse(5, 7, TOOK, 1, 1, 2, 2, 7, 7)
-    found = dropped_requests.is_free(cast(Any, Made(lines=lines)), use, 5, cast(Any, {Name(7): waiter}))
-    assert found is is_free
 
 
 @pytest.mark.parametrize(

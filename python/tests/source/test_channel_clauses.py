@@ -1,4 +1,4 @@
-"""The rules about channels that a function made, about calls of net/rpc and about slots, clause by clause: a row for
+"""The rules about channels that a function made, clause by clause: a row for
 each clause that doesn't hold, and for each side of a boundary."""
 
 from types import SimpleNamespace as Made
@@ -7,16 +7,14 @@ from typing import Any, cast
 import pytest
 
 from netrev.findings.causes import failed_calls, first_output, leftovers  # fmt: skip
-from netrev.findings.handovers import dropped_requests, needs_of_channels  # fmt: skip
+from netrev.findings.handovers import needs_of_channels  # fmt: skip
 from netrev.findings.hangs import needs  # fmt: skip
-from netrev.findings.http import rpc_calls  # fmt: skip
 from netrev.findings.locks import needs_of_mutexes  # fmt: skip
-from netrev.findings.pools import balances, made_channels, slots  # fmt: skip
-from netrev.findings.pools.senders import Giving
+from netrev.findings.pools import balances, made_channels  # fmt: skip
 
 from netrev.findings.streams import unpassed_ends  # fmt: skip
 from netrev.recording.call import CLOSE, Outcome
-from netrev.recording.goroutines import CLOSED, FOR_ROOM, FOR_VALUE, PUT, TOOK, At, ObjectUse
+from netrev.recording.goroutines import FOR_ROOM, FOR_VALUE, PUT, TOOK, At, ObjectUse
 from netrev.recording.waits import Name, ObjectWait
 from netrev.recording.where import OF_A_LIBRARY, OF_THE_PROGRAM, Stack
 from tests.failed_calls.test_cause_boundaries import line_of
@@ -42,13 +40,9 @@ def waiting(objects: list[tuple[int, str]], line: int = 3, reason: str = "a rece
 )  # fmt: skip
 def test_a_channel_whose_maker_has_returned(change: dict[str, Any], says: bool, monkeypatch: Patch) -> None:
     usual = {
-        "objects": [(5, "")],
-        "reason": made_channels.A_RECEIVER,
-        "of": OF_THE_PROGRAM,
-        "local": True,
-        "returned": True,
-        "empty": False,
-    }
+        "objects": [(5, "")], "reason": made_channels.A_RECEIVER, "of": OF_THE_PROGRAM, "local": True,
+        "returned": True, "empty": False,
+    }  # fmt: skip
     case = Made(**(usual | change))
     made_at = line_of(4, "main.ask", of=case.of)
     monkeypatch.setattr(made_channels, "name_of_goid", lambda lines, goid: Name(goid))
@@ -63,82 +57,6 @@ def test_a_channel_whose_maker_has_returned(change: dict[str, Any], says: bool, 
     found = made_channels.without_receiver(cast(Any, index), waiting(case.objects, reason=case.reason), 20)
     text = "a.go:4 in ask made that channel, without room for a value, and has returned, by a.go:9."
     assert found == ([text] if says else [])
-
-
-@pytest.mark.parametrize(
-    "change, says",
-    [
-        ({}, " with, made at b.go:2,"), ({"objects": [(5, FOR_ROOM)]}, ""), ({"objects": [(5, FOR_VALUE), (6, FOR_VALUE)]}, ""), ({"objects": []}, ""),
-        ({"objects": [(6, FOR_VALUE)]}, ""), ({"room": 3}, ""), ({"room": 1}, " with, made at b.go:2,"), ({"room": 0}, ""), ({"known": False}, ""),
-        ({"what": TOOK}, ""), ({"done": False}, ""), ({"second": False}, ""), ({"text": "x := 1"}, " with"), ({"text": "<-c.others"}, " with"),
-        ({"of": OF_A_LIBRARY}, " with"), ({"lines": ("", "// done := make(chan *rpc.Call, 2)")}, " with"), ({"lines": ("done := make(chan int)",)}, " with"),
-    ],
-)  # fmt: skip
-def test_a_channel_that_net_rpc_found_full(change: dict[str, Any], says: str, monkeypatch: Patch) -> None:
-    usual = {
-        "objects": [(5, FOR_VALUE)], "room": 2, "known": True, "what": PUT, "done": True, "second": True, "text": "<-c.done", "of": OF_THE_PROGRAM,
-        "lines": ("", "done := make(chan *rpc.Call, 2)", "done := make(chan *rpc.Call, 3)"),
-    }  # fmt: skip
-    case = Made(**(usual | change))
-    monkeypatch.setattr(rpc_calls, "text_at", lambda recording, call: case.text)
-    monkeypatch.setattr(rpc_calls, "files_of", lambda recording, file: [("b.go", case.lines), ("c.go", case.lines)])
-    monkeypatch.setattr(
-        rpc_calls, "contains", lambda stack, function: function == rpc_calls.DONE and stack in ("first", "other")
-    )
-    stacks = {1: "first" if case.done else "none", 2: "other" if case.second else "none", 3: "none"}
-    uses = {5: [use_of(5, case.what, 1), use_of(5, case.what, 2), use_of(5, TOOK, 3, 7)]}
-    lines = Made(uses=uses, objects={5: Made(room=case.room)} if case.known else {}, stacks=stacks)
-    wait = waiting(case.objects)._replace(stack=Stack((line_of(3, of=case.of),), None))
-    found = rpc_calls.dropped_by_rpc(cast(Any, Made(lines=lines)), wait)
-    many = "1 value" if case.room == 1 else f"{case.room} values"
-    sentence = says.removeprefix(" with")
-    start = f"Perhaps calls were dropped: that channel{sentence} has room for {many}, and net/rpc drops a call"
-    assert [line.startswith(start) for line in found] == [True] * bool(says)
-
-
-SLOTS = """\
-func serve() {
-	slots <- 1
-	defer release()
-	work()
-	<-slots
-	work()
-	release()
-	work()
-}
-
-func release() {
-	<-slots
-}
-"""
-
-
-@pytest.mark.parametrize(
-    "old, new, line, givings, back",
-    [
-        ("", "", 4, "5", 5), ("", "", 4, "12", 3), ("", "", 4, "5 12", 3), ("", "", 5, "5", 0), ("", "", 4, "", 0), ("defer release", "release", 4, "12", 7),
-        ("defer release", "release", 7, "12", 0), ("defer release", "// release", 6, "12", 7), ("defer release", "releases", 4, "12", 7), ("release", "give", 4, "12", 7), ("", "", 11, "12", 12),
-        ("", "", 10, "12", 0),
-    ],
-)  # fmt: skip
-def test_the_line_that_gives_a_slot_back(old: str, new: str, line: int, givings: str, back: int) -> None:
-    lines = tuple((SLOTS.replace(old, new, 1) if old else SLOTS).split("\n"))
-    leavings = [Giving(int(word), range(1, 10) if int(word) < 10 else range(11, 14)) for word in givings.split()]
-    assert slots.leaving_line(lines, line_of(line), leavings) == back
-
-
-@pytest.mark.parametrize(
-    "uses, found",
-    [("put7:2 took7:1", True), ("put7:2 took7:2", False), ("put7:2 took8:2", True), ("put8:2", False), ("took7:1", False), ("put7:1 put7:1 took7:1", True), ("", False)],
-)  # fmt: skip
-def test_a_goroutine_that_took_more_slots_than_it_gave_back(uses: str, found: bool) -> None:
-    of = []
-    for word in uses.split():
-        did, _, often = word.partition(":")
-        of.append(use_of(5, PUT if did[:-1] == "put" else TOOK, 1, int(often), goid=int(did[-1])))
-    recording = cast(Any, Made(lines=Made(uses={5: of})))
-    assert slots.has_more(recording, At(5, FOR_ROOM), 7, PUT) is found
-    assert not slots.has_more(recording, At(6, FOR_ROOM), 7, PUT)
 
 
 @pytest.mark.parametrize(
@@ -218,17 +136,9 @@ def test_a_goroutine_that_may_have_locked_the_mutex_itself(
 
 
 OPEN_ENDS = {
-    "by": True,
-    "last": 8,
-    "used": False,
-    "closing": False,
-    "of_go": False,
-    "closed": 8,
-    "wait": True,
-    "serves": True,
-    "own": True,
-    "objects": 1,
-}
+    "by": True, "last": 8, "used": False, "closing": False, "of_go": False, "closed": 8, "wait": True, "serves": True,
+    "own": True, "objects": 1,
+}  # fmt: skip
 STAYS = ", and for nothing else: the end of the request's context doesn't end that"
 
 
@@ -299,44 +209,6 @@ def test_the_failure_before_a_close(change: dict[str, Any], says: bool, monkeypa
 
 
 @pytest.mark.parametrize(
-    "waits, step",
-    [
-        ("4:7", 7),
-        ("4:8", 8),
-        ("4:9", 0),
-        ("5:7", 0),
-        ("4:", 0),
-        ("", 0),
-        ("4:7 4:5", 7),
-        ("4:5 4:7 5:8", 7),
-        ("4:0", 0),
-    ],
-)
-def test_when_a_wait_at_the_same_line_ended(waits: str, step: int, monkeypatch: Patch) -> None:
-    every = [
-        Made(stack=Stack((line_of(int(line)),), None), last=int(last) if last else None)
-        for line, _, last in (word.partition(":") for word in waits.split())
-    ]
-    other = Made(stack=Stack((line_of(4),), None), last=8)
-    of = {Name(1): every, Name(2): [other]}
-    monkeypatch.setattr(dropped_requests, "waits_of", lambda recording: Made(of=of))
-    wait = waiting([(5, FOR_VALUE)], 4)._replace(first=8)
-    assert dropped_requests.answered_before(cast(Any, None), wait) == step
-    assert dropped_requests.answered_before(cast(Any, None), wait._replace(name=Name(3))) == 0
-
-
-@pytest.mark.parametrize(
-    "what, number, end, found",
-    [(PUT, 5, 9, True), (PUT, 5, 8, False), (PUT, 5, 10, True), (TOOK, 5, 10, False), (CLOSED, 5, 10, False), (PUT, 6, 10, True), (PUT, 7, 10, False)],
-)  # fmt: skip
-def test_an_answer_after_a_request(what: str, number: int, end: int, found: bool) -> None:
-    uses = {number: [use_of(number, what, 1, end=end)], 4: [use_of(4, PUT, 1, end=20)]}
-    recording = cast(Any, Made(lines=Made(uses=uses)))
-    wait = waiting([(5, FOR_VALUE), (6, FOR_VALUE)])
-    assert dropped_requests.has_answer(recording, wait, use_of(3, PUT, 1, end=9)) is found
-
-
-@pytest.mark.parametrize(
     "change, whose",
     [
         ({}, ", at which goroutine 4 was the last to put a value"), ({"use": FOR_ROOM}, ", at which goroutine 4 was the last to take one"), ({"user": 8}, ", as goroutine 4 had put for others"),
@@ -392,8 +264,6 @@ def test_a_send_on_a_channel_whose_receivers_have_ended(ended: tuple[int, ...], 
     monkeypatch.setattr(needs_of_channels, "place_in", lambda stack: f" at {stack}")
     monkeypatch.setattr(needs_of_channels, "GIVES_WORDS", {TOOK: "took"})
     monkeypatch.setattr(needs_of_channels, "have_ended", lambda recording, wait: [f"object {wait.objects[0].object}"])
-    monkeypatch.setattr(needs_of_channels, "run_of", lambda recording: None)
-    monkeypatch.setattr(needs_of_channels, "ended_giver", lambda index, wait: None)
     given = [
         Made(name=Name(4), what=TOOK, stack="a.go:4", last=14),
         Made(name=Name(5), what=TOOK, stack="a.go:5", last=15),

@@ -8,12 +8,8 @@ import pytest
 
 from netrev.findings.evidence import waiters
 from netrev.findings.http import cancellations
-from netrev.findings.locks import mutex_holders
-from netrev.findings.source import missing_unlocks
 from netrev.recording.goroutines import CLOSED, PUT
 from netrev.recording.waits import Name
-from netrev.recording.where import Stack
-from tests.failed_calls.test_cause_boundaries import line_of
 
 Patch = pytest.MonkeyPatch
 
@@ -61,45 +57,6 @@ def test_a_function_that_a_context_s_end_started(change: dict[str, Any], says: s
     found = cancellations.after_sentence(cast(Any, Made(recording=Made(lines=lines))), 33, 7)
     more = [f"deferred {case.end}"] if "at a.go" in says else []
     assert found == ([f"context.AfterFunc called that as its context ended: {says}", *more] if says else [])
-
-
-BLOCK = """\
-	if closed {
-		mu.Unlock()
-		if late {
-			note()
-		}
-
-		return
-	}
-	if late {
-		mu.Unlock()
-		for all {
-			return
-		}
-	}
-	mu.Unlock()
-	return
-"""
-
-
-@pytest.mark.parametrize("number, leaves", [(2, True), (10, False), (15, False)])
-def test_a_block_that_ends_with_a_return(number: int, leaves: bool) -> None:
-    assert missing_unlocks.leaves_block(tuple(BLOCK.split("\n")), number) is leaves
-
-
-@pytest.mark.parametrize("lines, says", [((4,), " at a.go:4"), ((), "")])
-def test_a_mutex_that_no_goroutine_holds(lines: tuple[int, ...], says: str, monkeypatch: Patch) -> None:
-    monkeypatch.setattr(mutex_holders, "copies_sentence", lambda recording, call: f" at {call.place()}")
-    own = Made(_recording=Made(lines=Made(times=[0, mutex_holders.A_MOMENT + 5])))
-    wait = Made(begin=5, stack=Stack(tuple(line_of(number) for number in lines), None))
-    need = mutex_holders.MutexHolders._of_nobody(cast(Any, own), cast(Any, wait))
-    assert (need.says, need.is_odd) == (
-        [f"No goroutine has locked it. Perhaps it is a copy of a mutex that was locked as it was copied{says}."],
-        True,
-    )
-    wait.begin = 6
-    assert mutex_holders.MutexHolders._of_nobody(cast(Any, own), cast(Any, wait)).says == []
 
 
 class Hashable(NamedTuple):

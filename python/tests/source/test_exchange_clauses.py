@@ -8,7 +8,7 @@ import pytest
 
 from netrev.findings.causes import leftovers
 from netrev.findings.evidence import call_words, deadlines_ahead
-from netrev.findings.streams import exchanges, flushes, gone_readers
+from netrev.findings.streams import exchanges, gone_readers
 from netrev.recording.where import OF_GO, SourceCall, Stack
 
 Patch = pytest.MonkeyPatch
@@ -74,59 +74,6 @@ def test_the_first_write_after_a_reader_ended(
     index = Made(recording=Made(lines=Made(peers={1: 2})), by_socket={1: [read], 2: written})
     found = gone_readers.gone_reader(cast(Any, index), 1, position)
     assert found is not None and (found.write.first if found.write else None) == answer
-
-
-FLUSHED = """\
-func serve() {
-	for {
-		read()
-		switch {
-		case one:
-			if all {
-				begin()
-			}
-			write()
-			if late {
-				w.Flush()
-			} else {
-				w.Flush()
-			}
-		case two:
-			write()
-			if late {
-				w.Flush()
-			} else {
-				w.Flush()
-			}
-		}
-	}
-}
-"""
-
-
-@pytest.mark.parametrize(
-    "written, flushed_at, is_flushed",
-    [
-        (9, 11, True),
-        (9, 13, False),
-        (9, 18, False),
-        (9, 0, False),
-        (7, 11, True),
-        (7, 18, False),
-        (16, 18, True),
-        (16, 20, False),
-    ],
-)
-def test_a_flush_on_the_way_to_the_next_read(
-    written: int, flushed_at: int, is_flushed: bool, monkeypatch: Patch
-) -> None:
-    lines = tuple(
-        line.replace("w.Flush", "none") if number != flushed_at else line
-        for number, line in enumerate(FLUSHED.split("\n"), 1)
-    )
-    named = Made(flushes=("w.Flush",))
-    monkeypatch.setattr(flushes, "calls_any_of", lambda text, names: any(name in text for name in names))
-    assert flushes.flushes_after(lines, range(1, 25), 3, written, cast(Any, named)) is is_flushed
 
 
 @pytest.mark.parametrize(

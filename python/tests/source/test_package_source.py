@@ -1,20 +1,17 @@
-"""Facts from the source of a package: types of variables and fields, functions that write into buffers and flush them,
-and channels with the same name."""
+"""Facts from the source of a package: types of variables and fields, and functions that write into buffers and
+flush them."""
 
 from pathlib import Path
 
 import pytest
 
-from netrev.findings.handovers.dropped_notices import dropped_notices
-from netrev.findings.pools.later_closes import channels_of
 from netrev.findings.pools.leaking_paths import paths_with_an_error
-from netrev.findings.pools.unclosed_channels import closings_of
 from netrev.findings.source.functions import is_inside
 from netrev.findings.source.package import place_of_variable
 from netrev.findings.streams.left_in_buffers import names_of, unflushed_in
-from netrev.recording.goroutines import FOR_ROOM, FOR_VALUE, PUT, At, ObjectUse
+from netrev.recording.goroutines import FOR_ROOM, At
 from netrev.recording.recording import Recording
-from netrev.recording.waits import Name, ObjectWait, waits_of
+from netrev.recording.waits import Name, ObjectWait
 from netrev.recording.where import OF_THE_PROGRAM, SourceCall, Stack
 from tests.hangs.test_needs import stored
 
@@ -74,46 +71,6 @@ func (l *link) later() {
 	l.read()
 }
 """
-ALARM = """\
-package main
-
-type alarm struct{ wake, done chan bool }
-type other struct{ wake chan bool }
-
-func (a *alarm) raise() {
-	select {
-	case a.wake <- true:
-	default:
-	}
-}
-
-func (o *other) raise() {
-	select {
-	case o.wake <- true:
-	default:
-	}
-}
-
-func (a *alarm) sure() {
-	select {
-	case a.done <- true:
-	case <-a.wake:
-	}
-}
-
-func (a *alarm) deliver() {
-	<-a.wake
-	<-a.done
-	select {
-	case <-a.done:
-	case line, ok := <-a.wake:
-		select {
-		case <-inner:
-		}
-	case <-ctx.Done():
-	}
-}
-"""
 HALL = """\
 package main
 
@@ -140,16 +97,11 @@ func (h *hall) sit() error {
 def recording(tmp_path: Path) -> Recording:
     """A recording of a program with these files."""
     files = {
-        "node": NODE,
-        "service": SERVICE,
-        "link": LINK,
-        "alarm": ALARM,
-        "hall": HALL,
-        "node_test": "package main\n",
-    }
+        "node": NODE, "service": SERVICE, "link": LINK, "hall": HALL, "node_test": "package main\n",
+    }  # fmt: skip
     for name, text in files.items():
         (tmp_path / f"{name}.go").write_text(text, encoding="utf-8")
-    found = stored("counted-bad")
+    found = stored("kept-bad")
     found.lines.written = float("inf")
     return found
 
@@ -190,49 +142,20 @@ def test_a_write_that_nothing_flushes(recording: Recording, tmp_path: Path, func
     assert unflushed_in(recording, frame) == place
 
 
-def waiting(at: SourceCall, use: str = FOR_VALUE) -> ObjectWait:
-    """A wait in the line of a call."""
-    wait = next(wait for some in stored_waits().values() for wait in some)
-    return wait._replace(name=Name(0), stack=Stack((at,), None), objects=(At(1, use),))
-
-
-def stored_waits() -> dict[Name, list[ObjectWait]]:
-    return waits_of(stored("counted-bad")).of
-
-
-@pytest.mark.parametrize("text, line", [("	<-a.wake", 8), ("	<-a.done", 0)])
-def test_values_that_are_lost_if_nobody_waits(recording: Recording, tmp_path: Path, text: str, line: int) -> None:
-    at = call(tmp_path, "alarm", "(*alarm).deliver", text)
-    assert not dropped_notices(recording, waiting(at))  # no value was put there
-    recording.lines.stacks[99] = Stack((at._replace(line=7),), None)
-    recording.lines.uses[1] = [ObjectUse(1, 9, PUT, 99, 1, 1, 1, 1, 1)]
-    says = dropped_notices(recording, waiting(at))
-    assert [f"{at.file}:{line} puts a value there only if somebody waits" in say for say in says] == [True] * bool(line)
-    for_both, for_room = (At(1, FOR_VALUE), At(2, FOR_ROOM)), (At(1, FOR_ROOM),)
-    assert dropped_notices(recording, waiting(at)._replace(objects=for_both)) == says
-    assert not dropped_notices(recording, waiting(at)._replace(objects=for_room))
-
-
-def test_the_cases_of_a_select() -> None:
-    lines = tuple(ALARM.splitlines())
-    number = [at for at, text in enumerate(lines, 1) if text == "	select {"][-1]
-    assert list(channels_of(lines, number)) == ["a.done", "a.wake", "ctx.Done"]
-
-
 @pytest.mark.parametrize("nth, is_kept", [(1, True), (2, False)])
 def test_a_way_that_returns_an_error_and_keeps_a_seat(
     recording: Recording, tmp_path: Path, nth: int, is_kept: bool
 ) -> None:
     at = call(tmp_path, "hall", "(*hall).enter" if nth == 1 else "(*hall).sit", "h.seats <- struct{}{}", nth)
-    says = paths_with_an_error(recording, waiting(at, FOR_ROOM))
+    wait = ObjectWait(Name(0), 1, None, "room in a channel", Stack((at,), None), objects=(At(1, FOR_ROOM),))
+    says = paths_with_an_error(recording, wait)
     assert says == ([f"Perhaps (*hall).enter keeps it on this way: {at.file}:10 returns without {at.file}:6, which gives it back."] if is_kept else [])  # fmt: skip
 
 
 def test_who_only_starts_a_goroutine_is_not_inside() -> None:
     source = ("package main", "", "func run() {", "\tgo func() {", "\t\twork()", "\t}()", "\tclose(quit)", "}")
-    (closing,) = closings_of(source, SourceCall("main.run", "a.go", 5, OF_THE_PROGRAM), "quit")
     inside = {
-        name: is_inside(source, SourceCall(f"main.run{name}", "a.go", line, OF_THE_PROGRAM), closing.within)
+        name: is_inside(source, SourceCall(f"main.run{name}", "a.go", line, OF_THE_PROGRAM), range(3, 9))
         for name, line in (("", 4), (".func1", 5), (".gowrap1", 4))
     }
     assert inside == {"": True, ".func1": False, ".gowrap1": False}

@@ -10,56 +10,13 @@ import pytest
 from netrev.findings.causes import failed_calls
 from netrev.findings.evidence.need import Need
 from netrev.findings.http import cancellations
-from netrev.findings.locks import skipped_done
-from netrev.findings.pools import later_closes, leaking_paths
+from netrev.findings.pools import leaking_paths
 from netrev.recording.call import Outcome
-from netrev.recording.goroutines import CLOSED, DONE, PUT, TOOK, At, ObjectUse, Park
-from netrev.recording.waits import Name
+from netrev.recording.goroutines import CLOSED, PUT, At, ObjectUse, Park
 from netrev.recording.where import OF_A_LIBRARY, OF_GO, OF_THE_PROGRAM, SourceCall, Stack
 from tests.failed_calls.test_cause_boundaries import line_of
 
 Patch = pytest.MonkeyPatch
-
-CONTEXT = """\
-package main
-
-func run() {
-	ctx, cancel := context.WithCancel(all)
-	defer cancel()
-	wait(ctx)
-}
-
-func other(all, none) {
-	ctx, cancel := context.WithTimeout(all, 5)
-	wait(ctx)
-	cancel()
-	work()
-}
-"""
-IN_A_LITERAL = "func() {\n\t\tcancel()\n\t}()"
-
-
-@pytest.mark.parametrize(
-    "old, new, at, context, expected",
-    [
-        ("", "", 6, "ctx", ["5 deferred 3-7"]), ("", "", 11, "ctx", ["12 later 9-14"]), ("", "", 6, "all", []), ("", "", 11, "all", ["5 deferred 3-7", "12 later 9-14"]),
-        ("", "", 11, "no", []), ("", "", 8, "ctx", []), ("", "", 6, "s.ctx", ["5 deferred 3-7", "12 later 9-14"]),
-        ("defer cancel()", f"defer {IN_A_LITERAL}", 8, "ctx", ["6 deferred 5-7"]), ("defer cancel()", f"go {IN_A_LITERAL}", 8, "ctx", ["6 later 5-7"]),
-        ("defer cancel()", "// cancel()", 6, "ctx", []), ("defer cancel()", "s.cancel()", 6, "ctx", []), ("defer cancel()", "cancel(x)", 6, "ctx", []),
-        ("defer cancel()", "call() // cancel()", 6, "ctx", []), ("context.WithCancel", "x // context.WithCancel", 6, "ctx", []),
-        ("ctx, cancel := context.WithCancel", "s.ctx, s.cancel = context.WithCancel", 11, "ctx", ["12 later 9-14"]),
-        ("ctx, cancel := context.WithCancel(all)\n\tdefer cancel", "s.ctx, s.cancel = context.WithCancelCause(all)\n\tdefer t.cancel", 6, "t.ctx", ["5 deferred 3-7", "12 later 9-14"]),
-        ("func run()", "func run(ctx int)", 6, "ctx", ["5 deferred 3-7", "12 later 9-14"]), ("func run()", "func run(ctxs int)", 6, "ctx", ["5 deferred 3-7"]),
-    ],
-)  # fmt: skip
-@pytest.mark.parametrize("function", ["main.run", "main.run.func1"])
-def test_the_lines_that_cancel_the_context_of_a_function(
-    old: str, new: str, at: int, context: str, expected: list[str], function: str
-) -> None:
-    lines = tuple((CONTEXT.replace(old, new, 1) if old else CONTEXT).split("\n"))
-    found = later_closes.cancels_of(lines, line_of(at, function), context)
-    cancels = [(cancel.number, "deferred" if cancel.is_deferred else "later", cancel.within) for cancel in found]
-    assert [f"{number} {how} {within.start}-{within.stop - 1}" for number, how, within in cancels] == expected
 
 
 class NoLooks:
@@ -147,95 +104,6 @@ def test_the_sentences_about_a_timeout(change: dict[str, Any], says: list[str], 
     assert found.stopped == (12 if has_need else 0) and found.beyond == ["chain was."] * ("chain was." in says)
     call.name = "Write"
     assert failed_calls.of_timeout(cast(Any, index), call, "It ended").looks[1] == "history wd 3"
-
-
-TAKEN = {
-    "took": 4,
-    "done": 3,
-    "other": 0,
-    "puts": 0,
-    "missing": 1,
-    "line": 4,
-    "function": "main.work",
-    "what": TOOK,
-    "ended": True,
-    "waits": 0,
-    "more": 0,
-    "other_taker": "",
-}
-SKIPS = "The loop at a.go:3 took 4 values from a channel and called Done at a.go:9 3 times: "
-
-
-@pytest.mark.parametrize(
-    "change, says",
-    [
-        ({}, f"{SKIPS}left without it."), ({"line": 3}, f"{SKIPS}left without it."), ({"line": 2}, "perhaps"), ({"line": 5}, "perhaps"), ({"function": "main.other"}, "perhaps"),
-        ({"what": PUT}, "perhaps"), ({"missing": 2}, "perhaps"), ({"took": 5}, "perhaps"), ({"done": 2}, "perhaps"), ({"took": 0, "done": 0, "missing": 0}, "perhaps"),
-        ({"ended": False}, "perhaps"), ({"ended": False, "waits": 5}, f"{SKIPS}stays without it."), ({"ended": False, "waits": 6}, "perhaps"), ({"other": 2}, f"{SKIPS}left without it."),
-        ({"more": 1, "done": 2}, SKIPS.replace("a.go:9", "a.go:9 and a.go:11") + "left without it."), ({"more": 1}, "perhaps"),
-        ({"other_taker": "busy", "took": 3}, "perhaps"), ({"other_taker": "waits", "took": 3, "waits": 5}, f"{SKIPS}left without it."), ({"took": 3, "puts": 3}, "unput 3"), ({"took": 3, "puts": 2}, "perhaps"), ({"took": 3, "puts": 4}, "perhaps"), ({"took": 3, "puts": 3, "other": 1}, "perhaps"), ({"took": 2, "puts": 2}, "perhaps"),
-    ],
-)  # fmt: skip
-def test_a_loop_took_more_values_than_it_called_done(change: dict[str, Any], says: str, monkeypatch: Patch) -> None:
-    case = Made(**(TAKEN | change))
-    calls = {
-        1: line_of(9, "main.work"),
-        2: line_of(20, "main.work"),
-        3: line_of(case.line, case.function),
-        4: line_of(11, "main.work"),
-        5: line_of(30, "main.put"),
-    }
-    stacks = {number: Stack((call,), None) for number, call in calls.items()}
-    monkeypatch.setattr(
-        skipped_done, "rounds_of",
-        lambda recording, stack: skipped_done.Rounds(stack.calls[0], 3 if stack.calls[0].line < 20 else 15, 4, stack.calls[0])
-        if stack.calls[0].line != 20 else None,
-    )  # fmt: skip
-    monkeypatch.setattr(
-        skipped_done, "count_sentence", lambda recording, count: f"count{count.missing - case.missing or ''}"
-    )
-    monkeypatch.setattr(skipped_done, "unput_sentence", lambda recording, count, puts: [f"unput {puts[0].often}"])
-    monkeypatch.setattr(skipped_done, "perhaps_skipped", lambda *rest: ["count", "perhaps"])
-    monkeypatch.setattr(skipped_done, "paths_sentence", lambda recording, every, left: "left" if left else "stays")
-    monkeypatch.setattr(skipped_done, "name_of_goid", lambda lines, goid: Name(goid))
-
-    def use(what: str, often: int, stack: int, goid: int = 7) -> ObjectUse:
-        return ObjectUse(5, goid, what, stack, often, 1, 1, 1, 1)
-
-    done = [use(DONE, often, stack) for often, stack in ((case.more, 4), (case.done, 1), (case.other, 2)) if often]
-    uses = {
-        6: [use(PUT, 1, 5)],
-        5: [use(case.what, case.took, 3)] * bool(case.took) + [use(PUT, case.puts, 5, 8)] * bool(case.puts),
-    }
-    uses[5] += [use(TOOK, 1, 3, 8)] * bool(case.other_taker)
-    known = {7: Made(last=0 if case.ended else -1), 8: Made(last=-1)}
-    recording = Made(lines=Made(stacks=stacks, uses=uses, goroutines=known))
-    wait = Made(objects=(At(3, ""), At(case.waits, "")))
-    waits = Made(
-        at=lambda name, position: wait if case.waits and (name, position) in ((Name(7), 20), (Name(8), 20)) else None
-    )
-    found = skipped_done.skipped_done(
-        cast(Any, recording), cast(Any, waits), cast(Any, Made(done=done, missing=case.missing)), 20
-    )
-    assert found == ["count", says]
-
-
-def test_each_loop_that_calls_done_has_its_own_rounds(monkeypatch: Patch) -> None:
-    lines = {1: 9, 2: 19, 3: 4, 4: 14}
-    stacks = {number: Stack((line_of(line, "main.work"),), None) for number, line in lines.items()}
-    monkeypatch.setattr(skipped_done, "count_sentence", lambda recording, count: "count")
-    monkeypatch.setattr(skipped_done, "paths_sentence", lambda *rest: "")
-    monkeypatch.setattr(skipped_done, "name_of_goid", lambda lines, goid: Name(goid))
-    monkeypatch.setattr(
-        skipped_done, "rounds_of",
-        lambda recording, stack: skipped_done.Rounds(stack.calls[0], stack.calls[0].line // 10 * 10 + 3, stack.calls[0].line // 10 * 10 + 4, stack.calls[0]),
-    )  # fmt: skip
-    uses = {5: [ObjectUse(5, 7, TOOK, 3, 2, 1, 1, 1, 1)], 6: [ObjectUse(6, 7, TOOK, 4, 3, 1, 1, 1, 1)]}
-    recording = Made(lines=Made(stacks=stacks, uses=uses, goroutines={7: Made(last=0)}))
-    done = [ObjectUse(9, 7, DONE, stack, 2, 1, 1, 1, 1) for stack in (1, 2)]
-    waits = cast(Any, Made(at=lambda name, position: None))
-    found = skipped_done.skipped_done(cast(Any, recording), waits, cast(Any, Made(done=done, missing=1)), 20)
-    assert found == ["count", "The loop at a.go:13 took 3 values from a channel and called Done at a.go:19 2 times."]
 
 
 GETS = """\

@@ -36,12 +36,8 @@ from nrdb.prompt.answers import answer_display
 
 def test_goroutines_that_are_not_at_rest() -> None:
     values = {
-        "gor 0": "idle",
-        "gor 1": "parked 0 r",
-        "gor 2": "gone",
-        "gor 3": "absent",
-        "lock 4": "parked 1 r",
-    }
+        "gor 0": "idle", "gor 1": "parked 0 r", "gor 2": "gone", "gor 3": "absent", "lock 4": "parked 1 r",
+    }  # fmt: skip
     assert hanging(values) == {1: "parked 0 r"}
 
 
@@ -245,13 +241,9 @@ def test_what_a_lock_that_failed_would_have_led_to(sizes: dict[int, int], is_ope
 
 def test_units_need_those_that_make_their_objects() -> None:
     kinds: list[tuple[str, dict[str, int]]] = [
-        ("spawn", {}),
-        ("spawn", {}),
-        ("sockopen", {"g": 1}),
-        ("sockopen", {"g": 0}),
-        ("pollopen", {"g": 2, "s": 1}),
+        ("spawn", {}), ("spawn", {}), ("sockopen", {"g": 1}), ("sockopen", {"g": 0}), ("pollopen", {"g": 2, "s": 1}),
         ("rwlock", {"g": 1, "s": 0}),
-    ]
+    ]  # fmt: skip
     events = Made(all=[Made(kind=kind, named=named.get, timer=None) for kind, named in kinds])
     events.all.append(Made(kind="fire", named={}.get, timer=(0, "r")))
     needs = Dependencies(cast(Any, events), [cast(Any, Made(events=[place])) for place in range(len(events.all))])
@@ -364,16 +356,9 @@ def test_a_running_process_is_copied_or_watched(command: str, monkeypatch: pytes
 
 def test_a_session_without_a_file_has_no_recording() -> None:
     given = Made(
-        file=None,
-        join="localhost:1",
-        netrev="netrev",
-        lines=[],
-        suspects=False,
-        trace="",
-        timeline="",
-        batch=True,
+        file=None, join="localhost:1", netrev="netrev", lines=[], suspects=False, trace="", timeline="", batch=True,
         json=False,
-    )
+    )  # fmt: skip
     session = session_of(cast(Any, given), cast(Any, None), cast(Any, None), cast(Any, Made(note=print)))
     assert (session.recording, session.path, session.program) == (None, "", "netrev")
 

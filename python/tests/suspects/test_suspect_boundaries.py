@@ -79,39 +79,31 @@ ERROR = "error event on a reused descriptor"
 
 # Longest pauses and holds: the first row of each pair is exactly what is allowed, and the second is one step longer.
 LIMITS: dict[str, tuple[Steps, str]] = {
-    "a pause of 10": (HOLDS + ticks(10), ""),
-    "a pause of 11": (HOLDS + ticks(11), LEAKED),
+    "a pause of 10": (HOLDS + ticks(10), ""), "a pause of 11": (HOLDS + ticks(11), LEAKED),
     "twice the longest of three": (HOLDS + pauses(1, 6, 3) + ticks(12), ""),
     "more than twice the longest of three": (HOLDS + pauses(1, 6, 3) + ticks(13), LEAKED),
     "two pauses that ended say nothing": (HOLDS + pauses(1, 6, 2) + ticks(10), ""),
     "two pauses that ended say nothing, one more": (HOLDS + pauses(1, 6, 2) + ticks(11), LEAKED),
     "the pauses of another goroutine": (
-        [["incref", 0, 0], *pauses(0, 6, 3), ["decref", 0, 0], *HOLDS, *ticks(12)],
-        "",
+        [["incref", 0, 0], *pauses(0, 6, 3), ["decref", 0, 0], *HOLDS, *ticks(12)], "",
     ),
     "the pauses of another goroutine, one more": (
-        [["incref", 0, 0], *pauses(0, 6, 3), ["decref", 0, 0], *HOLDS, *ticks(13)],
-        LEAKED,
+        [["incref", 0, 0], *pauses(0, 6, 3), ["decref", 0, 0], *HOLDS, *ticks(13)], LEAKED,
     ),
     "the pauses of a goroutine without a reference": (pauses(0, 6, 3) + HOLDS + ticks(10), ""),
     "the pauses of a goroutine without a reference, one more": (pauses(0, 6, 3) + HOLDS + ticks(11), LEAKED),
-    "a hold of 40": (HOLDS + READS * 40, ""),
-    "a hold of 41": (HOLDS + READS * 41, LEAKED),
+    "a hold of 40": (HOLDS + READS * 40, ""), "a hold of 41": (HOLDS + READS * 41, LEAKED),
     "twice the longest hold": (
-        [["incref", 0, 0], *by(0, READS * 24), ["decref", 0, 0], *HOLDS, *READS * 50],
-        "",
+        [["incref", 0, 0], *by(0, READS * 24), ["decref", 0, 0], *HOLDS, *READS * 50], "",
     ),
     "more than twice the longest hold": (
-        [["incref", 0, 0], *by(0, READS * 24), ["decref", 0, 0], *HOLDS, *READS * 51],
-        LEAKED,
+        [["incref", 0, 0], *by(0, READS * 24), ["decref", 0, 0], *HOLDS, *READS * 51], LEAKED,
     ),
     "a long hold of another kind": (
-        [["rwlock", 0, 0, "r"], *by(0, READS * 24), ["rwunlock", 0, 0, "r"], *HOLDS, *READS * 40],
-        "",
+        [["rwlock", 0, 0, "r"], *by(0, READS * 24), ["rwunlock", 0, 0, "r"], *HOLDS, *READS * 40], "",
     ),
     "a long hold of another kind, one more": (
-        [["rwlock", 0, 0, "r"], *by(0, READS * 24), ["rwunlock", 0, 0, "r"], *HOLDS, *READS * 41],
-        LEAKED,
+        [["rwlock", 0, 0, "r"], *by(0, READS * 24), ["rwunlock", 0, 0, "r"], *HOLDS, *READS * 41], LEAKED,
     ),
     "a lock whose holder goes on": ([["rwlock", 1, 0, "r"], *READS * 60], ""),
     "a holder that is gone": (HOLDS + [["exit", 1]], LEAKED),
@@ -134,7 +126,7 @@ LIMITS: dict[str, tuple[Steps, str]] = {
     "more than twice the longest release of three": (owes(3, 8) + owes(1, 1)[:3] + ticks(17), RELEASE),
     "two releases say nothing": (owes(2, 8) + owes(1, 1)[:3] + ticks(10), ""),
     "two releases say nothing, one more": (owes(2, 8) + owes(1, 1)[:3] + ticks(11), RELEASE),
-}
+}  # fmt: skip
 
 
 @pytest.mark.parametrize("steps, rule", LIMITS.values(), ids=LIMITS)
@@ -155,8 +147,7 @@ NEAR: dict[str, tuple[Steps, str]] = {
     "a stale event before what came": (READ + PARK + [["pollevent", 0, 7, "r", 0], *COMES[:1]], NO_EVENT),
     "a stale event after what came": (READ + PARK + [*COMES[:1], ["pollevent", 0, 7, "r", 0]], STALE),
     "a stale event of another descriptor": (
-        SECOND + READ + PARK + [*COMES[:1], ["pollevent", 1, 7, "r", 0]],
-        NO_EVENT,
+        SECOND + READ + PARK + [*COMES[:1], ["pollevent", 1, 7, "r", 0]], NO_EVENT,
     ),
     "a wait for writing": ([["waitbegin", 1, 0, "w"], *PARK[1:]] + COMES[:1], ""),
     "an event that another goroutine threw away": (COMES + [["pollreset", 0, 0, "r"], *PARK], LOST),
@@ -164,34 +155,28 @@ NEAR: dict[str, tuple[Steps, str]] = {
     "a deadline of one side, set twice": ([sets(0, "r", 5), sets(0, "r", 6), sets(0, "w", 60), *PASSES[1:]], BEHIND),
     "a deadline of one side, set once": ([sets(0, "r", 5), sets(0, "w", 60), *PASSES[1:]], ""),
     "the other side set by another goroutine": (
-        [sets(0, "r", 5), sets(0, "r", 6), sets(1, "w", 60), *PASSES[1:]],
-        "",
+        [sets(0, "r", 5), sets(0, "r", 6), sets(1, "w", 60), *PASSES[1:]], "",
     ),
     "set twice by two goroutines": ([sets(1, "r", 5), sets(0, "r", 6), sets(0, "w", 60), *PASSES[1:]], ""),
     "the other side set before too": (
-        [sets(0, "w", 50), sets(0, "r", 5), sets(0, "r", 6), sets(0, "w", 60), *PASSES[1:]],
-        "",
+        [sets(0, "w", 50), sets(0, "r", 5), sets(0, "r", 6), sets(0, "w", 60), *PASSES[1:]], "",
     ),
     "the other side set before alone": ([sets(0, "w", 60), sets(0, "r", 5), sets(0, "r", 6), *PASSES[1:]], ""),
     "the other side of another descriptor": (
-        [*SECOND, sets(0, "r", 5), sets(0, "r", 6), sets(0, "w", 60, 1), *PASSES[1:]],
-        "",
+        [*SECOND, sets(0, "r", 5), sets(0, "r", 6), sets(0, "w", 60, 1), *PASSES[1:]], "",
     ),
     "set once in this use of the descriptor": (
-        [sets(0, "r", 500), *USED_AGAIN, sets(0, "r", 6), sets(0, "w", 60), *PASSES[1:]],
-        "",
+        [sets(0, "r", 500), *USED_AGAIN, sets(0, "r", 6), sets(0, "w", 60), *PASSES[1:]], "",
     ),
     "both sides moved after both": ([*BOTH, sets(0, "w", 6), *PASSES[1:]], ""),
     "a deadline in the past that is set anew": (READ + PARK + PAST + [sets(0, "r", -2), *BACK[1:], *LOOKS], ""),
     "a deadline that is taken back by another goroutine": (
-        [["spawn"], *READ, *PARK, *PAST, sets(2, "r", 0), *LOOKS],
-        TAKEN_BACK,
+        [["spawn"], *READ, *PARK, *PAST, sets(2, "r", 0), *LOOKS], TAKEN_BACK,
     ),
     "a deadline that is moved": (READ + PARK + PAST + [sets(0, "r", 50), *LOOKS], TAKEN_BACK),
     "the other side's that is taken back": (READ + PARK + [*PAST_OF_BOTH, sets(0, "w", 0), *LOOKS], ""),
     "one that is taken back between the swap and the check": (
-        READ + PARK + PAST + LOOKS[:1] + BACK[:1] + LOOKS[1:],
-        TAKEN_BACK,
+        READ + PARK + PAST + LOOKS[:1] + BACK[:1] + LOOKS[1:], TAKEN_BACK,
     ),
     "one that is taken back after the check": (READ + PARK + PAST + LOOKS + BACK, ""),
     "a write at another socket": (SECOND + [["closewrite", 0, 0], ["syswrite", 1, 1, "00"]], ""),
@@ -199,7 +184,7 @@ NEAR: dict[str, tuple[Steps, str]] = {
     "an error event of the first use": ([["pollevent", 0, 1, "rw", 1]], ""),
     "an error event before the use": ([["pollevent", 0, 1, "rw", 1], *USED_AGAIN], ""),
     "an error event of this use": (USED_AGAIN + [["pollevent", 0, 2, "w", 1]], ERROR),
-}
+}  # fmt: skip
 
 
 @pytest.mark.parametrize("steps, rule", NEAR.values(), ids=NEAR)
@@ -335,30 +320,25 @@ DUE: Steps = [["tick", 9], ["pop"], ["fire", 0]]
 LATE_BY_OTHER: Steps = by(0, LATE)
 TIMED: Steps = SETS + DUE
 OF_CALLS: dict[str, tuple[Steps, list[str]]] = {
-    "19 timeouts": (OPEN + TIMED + LATE * 19, []),
-    "20 timeouts": (OPEN + TIMED + LATE * 20, [AGAIN]),
+    "19 timeouts": (OPEN + TIMED + LATE * 19, []), "20 timeouts": (OPEN + TIMED + LATE * 20, [AGAIN]),
     "45 timeouts": (OPEN + TIMED + LATE * 45, [AGAIN]),
     "20 timeouts of two goroutines": (OPEN + TIMED + LATE * 19 + LATE_BY_OTHER, []),
     "20 timeouts with another goroutine's between": (OPEN + TIMED + LATE * 19 + LATE_BY_OTHER + LATE, []),
     "20 timeouts by two deadlines": (OPEN + TIMED + LATE * 10 + SETS_ANEW + LATE * 10, []),
     "20 timeouts by the second deadline": (OPEN + TIMED + LATE * 10 + SETS_ANEW + LATE * 20, [AGAIN]),
     "20 timeouts of writing": (
-        OPEN + [["incref", 0, 0], sets(0, "w", 5), ["decref", 0, 0]] + DUE + LATE_WRITE * 20,
-        [AGAIN],
+        OPEN + [["incref", 0, 0], sets(0, "w", 5), ["decref", 0, 0]] + DUE + LATE_WRITE * 20, [AGAIN],
     ),
     "19 timeouts of writing": (
-        OPEN + [["incref", 0, 0], sets(0, "w", 5), ["decref", 0, 0]] + DUE + LATE_WRITE * 19,
-        [],
+        OPEN + [["incref", 0, 0], sets(0, "w", 5), ["decref", 0, 0]] + DUE + LATE_WRITE * 19, [],
     ),
     "19 timeouts of each side": (
-        OPEN + [["incref", 0, 0], sets(0, "rw", 5), ["decref", 0, 0]] + DUE + (LATE + LATE_WRITE) * 19,
-        [],
+        OPEN + [["incref", 0, 0], sets(0, "rw", 5), ["decref", 0, 0]] + DUE + (LATE + LATE_WRITE) * 19, [],
     ),
-    "bytes asked for anew": (PARTLY + asks(16), [THROWN]),
-    "the rest asked for": (PARTLY + asks(14), []),
+    "bytes asked for anew": (PARTLY + asks(16), [THROWN]), "the rest asked for": (PARTLY + asks(14), []),
     "other bytes asked for": (PARTLY + asks(15), []),
     "bytes asked for anew by another goroutine": (PARTLY + [asks(16)[0], *by(0, asks(16)[1:])], []),
-}
+}  # fmt: skip
 
 
 @pytest.mark.parametrize("steps, rules", OF_CALLS.values(), ids=OF_CALLS)

@@ -89,16 +89,12 @@ def test_a_line_of_no_known_form_says_nothing(netrev: Path, line: str) -> None:
 @pytest.mark.parametrize(
     "script",
     [
-        "echo usage: netrev run FILE >&2; exit 2",
-        "echo step 11: fault 109 answer; exit 1",
-        f'echo "{LOST}"; echo ok 22 steps; exit 3',
-        f'echo "{LOST}"; echo ok 22 steps; kill -9 $$',
-        f'echo "{LOST}"',
-        f'echo "{LOST}"; echo ok 23 steps',
-        "exit 0",
+        "echo usage: netrev run FILE >&2; exit 2", "echo step 11: fault 109 answer; exit 1",
+        f'echo "{LOST}"; echo ok 22 steps; exit 3', f'echo "{LOST}"; echo ok 22 steps; kill -9 $$', f'echo "{LOST}"',
+        f'echo "{LOST}"; echo ok 23 steps', "exit 0",
     ],
     ids=["an older netrev", "a fault", "a failure", "killed", "no last line", "another length", "nothing"],
-)
+)  # fmt: skip
 def test_there_is_no_list(netrev: Path, script: str) -> None:
     assert list_of(netrev, script).of(22) is None
 

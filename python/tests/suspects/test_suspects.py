@@ -34,13 +34,9 @@ PAST: Steps = [["incref", 0, 0], ["setdeadline", 0, 0, "r", -1]]
 BACK: Steps = [["setdeadline", 0, 0, "r", 0], ["decref", 0, 0]]
 LOOKS: Steps = [["blockswap", 1], ["waitcheck", 1]]
 USED_AGAIN: Steps = [
-    ["increfclose", 0, 0],
-    ["evict", 0, 0],
-    ["decref", 0, 0],
-    ["pollclose", 0, 0],
-    ["sockopen", 16, 16],
+    ["increfclose", 0, 0], ["evict", 0, 0], ["decref", 0, 0], ["pollclose", 0, 0], ["sockopen", 16, 16],
     ["pollopen", 0, 1],
-]
+]  # fmt: skip
 
 
 class Pair(NamedTuple):
@@ -52,8 +48,7 @@ class Pair(NamedTuple):
 
 PAIRS = {
     "lost wake-up": Pair(
-        OPEN + COMES + READ[:2] + PARK,
-        OPEN + COMES + READ[:2] + [["sysread", 1, 0, 16]] + PARK,
+        OPEN + COMES + READ[:2] + PARK, OPEN + COMES + READ[:2] + [["sysread", 1, 0, 16]] + PARK,
     ),
     "no event": Pair(OPEN + READ + PARK + COMES[:1] + WHILE, OPEN + READ + PARK + COMES + WHILE),
     "stale event": Pair(
@@ -61,8 +56,7 @@ PAIRS = {
         OPEN + READ + PARK + [["pollevent", 0, 7, "r", 0]] + COMES,
     ),
     "deadline taken back too soon": Pair(
-        OPEN + READ + PARK + PAST + BACK + LOOKS + PARK[1:],
-        OPEN + READ + PARK + PAST + LOOKS + BACK,
+        OPEN + READ + PARK + PAST + BACK + LOOKS + PARK[1:], OPEN + READ + PARK + PAST + LOOKS + BACK,
     ),
     "deadline left behind": Pair(OPEN + BOTH + PASSES, OPEN + BOTH + [["setdeadline", 0, 0, "w", 0]] + PASSES[:2]),
     "missed release": Pair(
@@ -70,12 +64,10 @@ PAIRS = {
         OPEN + QUEUED + [["rwunlock", 0, 0, "r"], ["release", 0]] + WHILE,
     ),
     "leaked reference": Pair(
-        OPEN + [["incref", 1, 0]] + WHILE,
-        OPEN + [["incref", 1, 0]] + WHILE[:6] + [["decref", 1, 0]] + WHILE[6:],
+        OPEN + [["incref", 1, 0]] + WHILE, OPEN + [["incref", 1, 0]] + WHILE[:6] + [["decref", 1, 0]] + WHILE[6:],
     ),
     "lock held": Pair(
-        OPEN + QUEUED + WHILE,
-        OPEN + QUEUED + WHILE[:9] + [["sysread", 0, 0, 16]] + WHILE[9:],
+        OPEN + QUEUED + WHILE, OPEN + QUEUED + WHILE[:9] + [["sysread", 0, 0, 16]] + WHILE[9:],
     ),
     "close without evict": Pair(
         OPEN + [["increfclose", 0, 0]] + WHILE,
@@ -89,7 +81,7 @@ PAIRS = {
         OPEN + USED_AGAIN + [["pollevent", 0, 2, "rw", 1]],
         OPEN + USED_AGAIN + [["pollevent", 0, 2, "rw", 0], ["pollevent", 0, 1, "rw", 1]],
     ),
-}
+}  # fmt: skip
 
 
 def recording_of(steps: Steps) -> Recording:

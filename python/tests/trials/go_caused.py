@@ -46,24 +46,23 @@ NAMES = {
     ),
     ROOTS: ("hub", "bodies", "relay", "slots", "itself"),
     TURNS: (
-        "doubled", "ring", "undone", "unflushed", "longer", "queued", "dropped", "limited", "cancelled", "expired", "unwoken", "stays",
+        "doubled", "ring", "undone", "unflushed", "longer", "queued", "dropped", "limited", "cancelled", "expired", "stays",
         "uncounted", "overdue",
     ),
     GONE: (
-        "unmatched", "missed", "quits", "skipped", "surplus", "stilled", "elsewhere", "reread", "nested", "readahead", "unanswered",
-        "outlived",
+        "unmatched", "missed", "quits", "skipped", "surplus", "stilled", "elsewhere", "nested", "readahead",
     ),
-    SKIPS: ("kept", "opened", "counted", "buffered", "timed", "ending", "swallowed", "mute"),
+    SKIPS: ("kept", "opened", "timed", "swallowed"),
     JOINS: ("gaveup", "guarded", "rounds", "uncased", "pooled", "stuck", "polled"),
-    SIZES: ("datagram", "frame", "held", "alone"),
+    SIZES: ("datagram",),
     SOURCES: (
-        "ordered", "departed", "oneOnly", "reentered", "unreturned", "outlasted", "unpushed", "crowded", "mistaken", "turnedAway",
-        "mixed", "spins", "unheard", "signalled", "seated", "partly",
+        "ordered", "departed", "reentered", "unreturned", "unpushed", "turnedAway",
+        "mixed", "spins", "seated", "partly",
     ),
-    HANDS: ("severed", "dismissed", "repeated", "deferred", "hidden", "mingled", "stranded"),
+    HANDS: ("severed", "dismissed", "deferred", "mingled"),
     CHAINS: (
-        "probed", "looped", "callback", "locked", "abandoned", "readers", "copied", "withdrawn", "remembered", "refused", "shortened",
-        "fanned", "latecomer", "handshake", "verb", "header", "panicked", "lengthy", "duplicated", "shared",
+        "probed", "looped", "callback", "abandoned", "readers", "copied", "withdrawn", "remembered", "refused", "shortened",
+        "fanned", "latecomer", "handshake", "panicked", "lengthy", "duplicated", "shared",
     ),
 }  # fmt: skip
 

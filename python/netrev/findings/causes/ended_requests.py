@@ -6,7 +6,6 @@ from collections.abc import Hashable
 from netrev.findings.evidence.past_tense import in_the_past
 from netrev.findings.finding import Cause, with_others
 from netrev.findings.hangs.chains import chain_sentence
-from netrev.findings.http.ended_contexts import of_a_handler
 from netrev.findings.http.requests import CancelledRequest, cancelled_requests
 from netrev.findings.streams.unaccepted_connections import unaccepted
 from netrev.recording.recording import Recording
@@ -30,8 +29,7 @@ def of_request(recording: Recording, ended: CancelledRequest) -> Cause:
     steps, looks = [ended.request.last, ended.step], [f"goto {ended.step}", f"calls sock {ended.request.socket}"]
     index = run_of(recording)
     served = served_sentence(index, ended.closed, ended.closed.first) or unserved_sentence(index, ended)
-    handler = [] if ended.is_late else of_a_handler(recording, ended.request.goid)
-    return Cause(ended.closed, [*ended.says(recording), *handler, *served], steps, looks)
+    return Cause(ended.closed, [*ended.says(recording), *served], steps, looks)
 
 
 def unserved_sentence(index: RunIndex, ended: CancelledRequest) -> list[str]:

@@ -199,7 +199,7 @@ def of_the_other_end(index: RunIndex, call: Call, begins: str, deep: int) -> Cau
         f"The other end, socket {other}, was {what}{place_of_step(recording, by.first, by.goroutine)}.",
     ]
     looks, before = [f"goto {by.first}", f"calls sock {other}"], why(index, by, deep)
-    says += [*(body_sentence(recording, call, by) if is_of_a_body(recording, call) else []), *before.says]
+    says += [*(body_sentence(recording, by) if is_of_a_body(recording, call) else []), *before.says]
     last = index.last_use(other, by.first, ("Read",)) if other is not None else None
     says += (long_line_sentence(index, last) or part_sentence(index, call, last)) if last else []
     if (late := late_write(index, call, by)) is not None:

@@ -24,9 +24,7 @@ from netrev.findings.hangs.hang_words import hang_queries, hang_sentences, tree_
 from netrev.findings.hangs.joins import Topic, joined
 from netrev.findings.hangs.wait_graph import Hang, WaitGraph, graph_at, is_at_mutex, waiters_of
 from netrev.findings.http.cut_bodies import cut_bodies
-from netrev.findings.http.ended_contexts import causes_of_ended
 from netrev.findings.http.late_answers import late_answers
-from netrev.findings.http.unsent_requests import causes_of_unsent
 from netrev.findings.source.later_source import text_after
 from netrev.findings.streams.failed_dials import ended_sentence, failed_dials, refused_dials, refused_words
 from netrev.findings.streams.gone_readers import ended_after
@@ -91,8 +89,7 @@ def perhaps_of(recording: Recording, sentences: list[str]) -> list[Finding]:
     """What may be wrong if no call failed, unless one of these sentences says so already."""
     index = run_of(recording)
     left = list(failed_dials(index)) or leftovers_of(recording)
-    cancelled = [*requests_that_ended(recording, False), *causes_of_ended(index)]
-    late = list(late_answers(index))
+    cancelled, late = requests_that_ended(recording, False), list(late_answers(index))
     perhaps = [*cancelled, *once(recording, [*late, *left], [1] * len([*late, *left]))][:MOST_PERHAPS]
     new = [cause for cause in perhaps if not any(cause.says[0].endswith(sentence) for sentence in sentences)]
     return [
@@ -227,10 +224,8 @@ def failures_of(recording: Recording) -> list[Cause]:
         )
         for end in unpassed_ends(index)
     ]
-    unsent = causes_of_unsent(index)
     return [
         *once(recording, ends, [1] * len(ends)),
-        *once(recording, unsent, [1] * len(unsent)),
         *telling_failures(recording),
         *requests_that_ended(recording, True),
     ]

@@ -1,7 +1,6 @@
 """Datagrams that were longer than the buffer into which they were read: the system discards the rest without an
 error."""
 
-import re
 from collections import defaultdict
 from collections.abc import Iterator
 from functools import lru_cache
@@ -12,17 +11,12 @@ from netrev.findings.evidence.call_words import text_of_call
 from netrev.findings.evidence.read_sizes import read_sizes_of
 from netrev.findings.evidence.sizes import size_of
 from netrev.findings.finding import Cause
-from netrev.findings.source.functions import found_in, text_at
-from netrev.findings.streams.flushes import paths_without_answer
 from netrev.findings.streams.unaccepted_connections import is_datagram
 from netrev.recording.call import Call
-from netrev.recording.where import Stack
 from netrev.run.index import RunIndex
 from netrev.text.plurals import counted
 
 from .undelivered_datagrams import is_same, sent_at
-
-INTO = re.compile(r"\.Read\w*\((\w+)")
 
 
 class CutDatagram(NamedTuple):
@@ -36,25 +30,10 @@ class CutDatagram(NamedTuple):
         recording, length = index.recording, counted(size_of(index, self.read), "byte")
         sentence = (
             f"{text_of_call(recording, self.write)} sent a datagram of {counted(size_of(index, self.write), 'byte')} in "
-            ""
             f"{self.write.steps()}"
         )
-        place = buffer_place(index, self.read)
-        read = (
-            f"{text_of_call(recording, self.read)} read it into a buffer of {length}{place}, in step {self.read.last}"
-        )
+        read = f"{text_of_call(recording, self.read)} read it into a buffer of {length}, in step {self.read.last}"
         return [f"{sentence}; {read}: the rest was thrown away."]
-
-
-def buffer_place(index: RunIndex, read: Call) -> str:
-    """The line at which a function makes the buffer that a Read fills: ` (a.go:30)`; empty if unknown."""
-    own = index.recording.lines.of(read.first).own()
-    into = INTO.search(text_at(index.recording, own[0])) if own else None
-    if not own or not into:
-        return ""
-    makes = re.compile(rf"\b{re.escape(into[1])}\b *(?::?= *make\(\[\]byte|\[\w+\]byte)")
-    numbers = [number for number, _ in found_in(index.recording, own[0], makes) if number <= own[0].line]
-    return f" ({own[0].file}:{numbers[-1]})" if numbers else ""
 
 
 @lru_cache(maxsize=2)
@@ -119,21 +98,8 @@ def cut_sentence(index: RunIndex, call: Call, position: int) -> list[str]:
     following = next((own_call for own_call in own if own_call.first > pair.read.last), None)
     says = pair.says(index)
     if following and following.name == "Read" and following.socket == pair.read.socket:
-        ways = paths_without_answer(
-            index.recording, index.recording.lines.of(pair.read.first), writes_of(index, pair.read)
-        )
-        says.append(
-            f"That goroutine sent no answer: it read on in step {following.first}{f' ({ways})' if ways else ''}."
-        )
+        says.append(f"That goroutine sent no answer: it read on in step {following.first}.")
     return says
-
-
-def writes_of(index: RunIndex, read: Call) -> set[Stack]:
-    """The stacks of the Writes that a Read's goroutine made to the same socket."""
-    calls = (
-        write for write in index.by_socket[read.socket] if write.goroutine == read.goroutine and write.name == "Write"
-    )
-    return {index.recording.lines.of(write.first) for write in calls}
 
 
 def last_cut(index: RunIndex, call: Call) -> list[str]:

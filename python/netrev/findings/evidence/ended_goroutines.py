@@ -88,14 +88,12 @@ def loop_words(recording: Recording, stack: Stack) -> str:
 
 
 def paths_out(recording: Recording, call: SourceCall) -> str:
-    """The lines that leave the loop around a line, as text, such as `, from whose loop only a.go:18 leads`; empty if no
-    line or too many lines leave it."""
+    """The lines that leave the loop around a line, as text, such as `, from whose loop a.go:18 leads`; empty if no line
+    or too many lines leave it. A function that the loop calls may end the goroutine too."""
     leaves, over = leaves_of(recording, call), ranged_over(recording, call)
     ways = " and ".join(f"{call.file}:{number}" for number in leaves)
-    lead = f"lead{'s' if len(leaves) == 1 else ''}"
-    if leaves and over:
-        return f", from whose loop {ways} {lead}, or the end of its range over {over}"
-    return f", from whose loop only {ways} {lead}" if leaves else ""
+    lead, end = f"lead{'s' if len(leaves) == 1 else ''}", f", or the end of its range over {over}" if over else ""
+    return f", from whose loop {ways} {lead}{end}" if leaves else ""
 
 
 def left_by(index: RunIndex, call: OneCall) -> str:

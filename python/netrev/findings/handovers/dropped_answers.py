@@ -10,9 +10,7 @@ from netrev.findings.evidence.call_words import text_of_call
 from netrev.findings.evidence.need import Need
 from netrev.findings.evidence.waiters import Waiter
 from netrev.findings.pools.senders import PUTS, givings_of
-from netrev.findings.pools.unclosed_channels import RECEIVE
 from netrev.findings.source.functions import Lines, indent_of, range_of, source_of, text_at
-from netrev.findings.source.lost_entries import entry_sentence
 from netrev.recording.call import Call
 from netrev.recording.goroutines import FOR_VALUE, PUT, TOOK
 from netrev.recording.recording import Recording
@@ -25,6 +23,7 @@ from netrev.text.plurals import counted
 
 from .handed_over_requests import sockets_of_request, written_for
 
+RECEIVE = re.compile(r"<-\s*([\w.]+)(?![\w.(])")
 GOES_ON = re.compile(r"\s*(continue\b|default:)")
 CONDITION = re.compile(r"\s*(?:\} else )?if\b")
 MOST_WAYS = 2
@@ -170,7 +169,7 @@ def sentence_of(index: RunIndex, wait: ObjectWait, hand: Hand, request: Call, re
     ways, place = paths_past(recording, hand.reader.stack, hand.line.file, hand.line.line), hand.line.place()
     by = paths_text(hand.line.file, ways)
     continuation = f"{by} without {place}, where it hands values on" if ways else f"it hands values on at {place}"
-    return [*says, f"Perhaps {name} dropped the answer: {continuation}.", *entry_sentence(recording, hand.line)]
+    return [*says, f"Perhaps {name} dropped the answer: {continuation}."]
 
 
 def paths_text(file: str, ways: list[int]) -> str:

@@ -11,7 +11,6 @@ from netrev.findings.evidence.ended_goroutines import ended_where, paths_out
 from netrev.findings.evidence.ledger import END
 from netrev.findings.evidence.need import Need
 from netrev.findings.pools.balances import has_ended
-from netrev.findings.pools.new_channels import channel_since
 from netrev.recording.call import Call as OneCall
 from netrev.recording.goroutines import FOR_VALUE, PUT, TOOK, ObjectUse
 from netrev.recording.waits import Name, ObjectWait, name_of_goid, of_names
@@ -36,8 +35,7 @@ def ended_hand(index: RunIndex, wait: ObjectWait) -> Need | None:
     lines, own = index.recording.lines, wait.stack.own()
     if not own or own[0].of != OF_THE_PROGRAM or len(wait.objects) != 1 or wait.objects[0].use != FOR_VALUE:
         return None
-    since = channel_since(index.recording, wait)
-    if any(use.what == PUT and use.last >= since for use in lines.uses.get(wait.objects[0].object, ())):
+    if any(use.what == PUT for use in lines.uses.get(wait.objects[0].object, ())):
         return None
     hands = hands_at(index, own[0])
     names = tuple(hand.name for hand in hands)

@@ -16,18 +16,12 @@ from netrev.findings.pools.balance_sentences import excess_sentence, kept_senten
 from netrev.findings.pools.balances import Balance, balances_of, give_back, has_ended
 from netrev.findings.pools.leaking_paths import gives_on_most_paths, paths_with_an_error
 from netrev.findings.pools.made_channels import is_filled_by_maker
-from netrev.findings.pools.new_channels import channel_since
 from netrev.findings.pools.senders import later_giver
-from netrev.findings.pools.slots import of_slots
-from netrev.findings.pools.unclosed_channels import unclosed
 from netrev.recording.goroutines import FOR_ROOM, FOR_VALUE, PUT, TOOK, At
 from netrev.recording.recording import Recording
 from netrev.recording.waits import Name, ObjectWait, Waits, name_of_goid
 from netrev.recording.where import OF_THE_PROGRAM, Stack
-from netrev.run.index import run_of
 
-from .dropped_notices import dropped_notices
-from .ended_givers import ended_giver
 from .givers import has_left, have_ended, is_in, only_itself, untouched
 
 DID = {PUT: "putting a value there", TOOK: "taking one there"}
@@ -65,12 +59,12 @@ class NeedsOfChannels:
         return self._once(("balances", number), find)
 
     def besides(self, wait: ObjectWait) -> list[str]:
-        """Further sentences about a channel: values that were lost or kept."""
+        """Further sentences about a channel: values that were kept."""
 
         def find() -> list[str]:
             is_pool = any(self._balances(at.object) for at in wait.objects if self.is_buffered(at))
             kept = [] if is_pool else paths_with_an_error(self._recording, wait)
-            return dropped_notices(self._recording, wait) or kept
+            return kept
 
         return self._once((wait.stack.own(), wait.objects, "besides"), find)
 
@@ -80,7 +74,7 @@ class NeedsOfChannels:
         at, wanted = wait.objects[0], GIVES.get(wait.objects[0].use, "")
         balances = self._balances(at.object) if self.is_buffered(at) else []
         if not balances:
-            return self._of_slots(wait) or self._of_nested(wait) if self.is_buffered(at) else None
+            return self._of_nested(wait) if self.is_buffered(at) else None
         takes = balances[0].takes
         if takes == wanted and is_filled_by_maker(self._recording, at):
             return None
@@ -96,17 +90,6 @@ class NeedsOfChannels:
             f"{{by}} {'put a value there' if takes == PUT else 'took a value there'}, and has that yet",
             Certainty.LIKELY,
         )
-
-    def _of_slots(self, wait: ObjectWait) -> Need | None:
-        """What a goroutine needs while it waits for a slot of a semaphore. The need names a goroutine that holds a
-        slot."""
-        key = "slots", wait.stack.own(), wait.objects
-        need = self._once(
-            key, lambda: of_slots(self._recording, wait._replace(name=NOBODY), self._stacks, self._waiters)
-        )
-        if need and need.by == wait.name:
-            return of_slots(self._recording, wait, self._stacks, self._waiters)
-        return need
 
     def _of_nested(self, wait: ObjectWait) -> Need | None:
         """What a goroutine needs while it waits on a channel that was filled only once. Another goroutine took a value
@@ -150,49 +133,30 @@ class NeedsOfChannels:
 
     def is_new(self, wait: ObjectWait) -> bool:
         """Whether no goroutine has yet done what a goroutine waits for on its channels."""
-        since = self._channel_since(wait)
-        operations = (operation for at in wait.objects for operation in self._operations(at))
-        return (
-            bool(wait.objects)
-            and all(at.use for at in wait.objects)
-            and not any(operation.last >= since for operation in operations)
-        )
-
-    def _channel_since(self, wait: ObjectWait) -> int:
-        """A step before which a goroutine's channel was made; 0 if unknown. The results of `channel_since` are
-        cached here."""
-        return self._once((wait.name, wait.objects, "made"), lambda: channel_since(self._recording, wait))
+        is_known = bool(wait.objects) and all(at.use for at in wait.objects)
+        return is_known and not any(self._operations(at) for at in wait.objects)
 
     def of(self, wait: ObjectWait) -> Need:
         """What a goroutine needs from its channels, if possible from the last goroutine that did the awaited operation."""
         is_one = len(wait.objects) == 1
-        since = self._channel_since(wait)
         operations = [
-            candidate
-            for at in wait.objects
-            for candidate in self._operations(at)
-            if candidate.name != wait.name and candidate.last >= since
+            candidate for at in wait.objects for candidate in self._operations(at) if candidate.name != wait.name
         ]
-        closing = self._closing(wait)
-        if closing and (closing.by or not operations):
-            return closing
         if operation := next((candidate for candidate in operations if candidate.name in self._waiters), None):
             is_last = operation.last >= max(candidate.last for candidate in operations)
             words = f"{(GIVES_WORDS if is_last else GAVE_BEFORE)[operation.what]}{place_in(operation.stack)}"
             if not is_one:
                 return Need([], operation.name, f"perhaps for {{by}}: it {words}", Certainty.PERHAPS)
             is_over = has_left(self._waiters[operation.name].stack, operation.stack)
-            siblings, more = self._of_siblings(wait), self.more_of(wait)
+            siblings = self._of_siblings(wait)
             ended = self._ended_siblings(wait)
             begins, certainty = ("perhaps for {by}: it", Certainty.PERHAPS) if is_over else ("{by}", Certainty.LIKELY)
-            return Need(
-                siblings, operation.name, f"{begins} {words}", certainty, more=more, is_odd=bool(siblings), ended=ended
-            )
+            return Need(siblings, operation.name, f"{begins} {words}", certainty, is_odd=bool(siblings), ended=ended)
         if not is_one:
             return self._of_ended_takers(wait)
         if says := self._of_siblings(wait):
             return Need(says, is_odd=True, ended=self._ended_siblings(wait))
-        return self._of_the_past(wait, operations[:1], closing)
+        return self._of_the_past(wait, operations[:1])
 
     def _of_ended_takers(self, wait: ObjectWait) -> Need:
         """What a goroutine in a select needs: room in a channel from which only ended goroutines took values."""
@@ -205,9 +169,9 @@ class NeedsOfChannels:
                 )
                 ended = have_ended(self._recording, wait._replace(objects=(at,)))
                 return Need([f"{did}; it {self._does(latest.name, stack)}.", *ended], is_odd=True)
-        return ended_giver(run_of(self._recording), wait) or Need([])
+        return Need([])
 
-    def _of_the_past(self, wait: ObjectWait, operations: list[Operation], closing: Need | None) -> Need:
+    def _of_the_past(self, wait: ObjectWait, operations: list[Operation]) -> Need:
         """What a goroutine needs if no waiting goroutine did the awaited operation. The need says which other goroutine
         did it last, if any."""
         for operation in operations:
@@ -218,18 +182,13 @@ class NeedsOfChannels:
             )
             ended = f"{did}; it {does}." if (does := self._does(operation.name, operation.stack)) else f"{did}."
             gone = operation.name if has_ended(self._recording, operation.name) else None
-            return Need([ended, *((closing.more if closing else []) or have_ended(self._recording, wait))], gone=gone)
+            return Need([ended, *have_ended(self._recording, wait)], gone=gone)
         is_filled = any(is_filled_by_maker(self._recording, at) for at in wait.objects)
         if not is_filled and (itself := only_itself(self._recording, wait)):
             return Need([itself])
         if left := self._once(("gone", wait.objects), lambda: self._gone(wait)):
             return Need(left)
-        later = self._by_source("later", later_giver, wait)
-        if later is None or not later.by:
-            return (
-                ended_giver(run_of(self._recording), wait) or later or Need([], more=untouched(self._recording, wait))
-            )
-        return later
+        return self._by_source("later", later_giver, wait) or Need([], more=untouched(self._recording, wait))
 
     def _operations(self, at: At) -> list[Operation]:
         """Some goroutines that did the awaited operation on a channel. Waiting goroutines come first."""
@@ -240,10 +199,6 @@ class NeedsOfChannels:
 
         return self._once(("given", at), find)
 
-    def _closing(self, wait: ObjectWait) -> Need | None:
-        """What a goroutine needs while it waits for a channel to be closed, found from the source."""
-        return self._by_source("closing", unclosed, wait)
-
     def _by_source(self, key: str, rule: Rule, wait: ObjectWait) -> Need | None:
         """The result of a rule that reads the source. The result is computed once for all waits at a line. If it names
         the waiting goroutine itself, it is computed again for that wait."""
@@ -251,11 +206,6 @@ class NeedsOfChannels:
         place = wait.stack.own(), wait.objects, key
         need = self._once(place, lambda: rule(self._recording, nobody, self._stacks.items()))
         return rule(self._recording, wait, self._stacks.items()) if need and need.by == wait.name else need
-
-    def more_of(self, wait: ObjectWait) -> list[str]:
-        """Further sentences about a wait: a channel isn't closed."""
-        closing = self._closing(wait)
-        return closing.more if closing else []
 
     def _of_siblings(self, wait: ObjectWait) -> list[str]:
         """Sentences about goroutines that ended without doing what others from the same `go` statement did."""

@@ -10,7 +10,6 @@ from netrev.findings.datagrams.undelivered_datagrams import unheard
 from netrev.findings.evidence.call_words import place_of_step, result_words, since_begin, text_of_call, waits_words
 from netrev.findings.evidence.need import Certainty, Need
 from netrev.findings.evidence.waiters import Waiter
-from netrev.findings.http.held_answers import held_back
 from netrev.findings.locks.new_readers import left_reader, thrown_away
 from netrev.findings.pools.left_sockets import left_socket
 from netrev.findings.streams.ends_of_reads import end_sentence
@@ -18,9 +17,7 @@ from netrev.findings.streams.exchanges import lacking, unanswered, unasked
 from netrev.findings.streams.gone_readers import ended_reader
 from netrev.findings.streams.idle_listeners import idle_listeners
 from netrev.findings.streams.left_in_buffers import left_in_buffer
-from netrev.findings.streams.partial_reads import part_taken, partial_reads
 from netrev.findings.streams.unaccepted_connections import is_dialed, unaccepted
-from netrev.findings.streams.unfinished_replies import unfinished_reply
 from netrev.findings.streams.unread_bytes import unread_answers
 from netrev.recording.call import CLOSE, Call
 from netrev.recording.cell_meanings import SIDES
@@ -66,11 +63,9 @@ class Needs:
         need = self._of_other_end(call, other, is_reading)
         if not is_reading:
             return need._replace(more=[*need.more, *unread_answers(index, call, other, self._position)])
-        if beside := held_back(index, call.socket, self._position):
-            return need._replace(beside=tuple(beside))
         lost = left_reader(index, call, other, self._position) or thrown_away(index, call, other, self._position)
-        more = lost or part_taken(index, call) or self._of_exchange(call, other) or partial_reads(index, call)
-        more = more or left_socket(index, other, self._position) or ended_reader(index, call, other, self._position)
+        more = lost or self._of_exchange(call, other) or left_socket(index, other, self._position)
+        more = more or ended_reader(index, call, other, self._position)
         ends = [] if more else end_sentence(index, call, other, self._position)
         return need._replace(more=more or ends, beside=tuple(lost), is_plain=bool(ends))
 
@@ -78,15 +73,8 @@ class Needs:
         """Sentences about what a waiting Read needs. The sentences are derived from the earlier Writes of the Read's
         goroutine, the Reads at the other end, and the counts of bytes."""
         index = self._index
-        found = lacking(index, call, other)
-        found = (
-            found
-            or left_in_buffer(index, call)
-            or unasked(index, call)
-            or unanswered(index, call, other, self._position)
-        )
-        found = found or unfinished_reply(index, call, other, self._position)
-        return found
+        found = lacking(index, call, other) or left_in_buffer(index, call) or unasked(index, call)
+        return found or unanswered(index, call, other, self._position)
 
     def _of_lock(self, call: Call) -> Need:
         """What a call needs while it waits for the lock of a socket's side: the end of the call that holds the lock."""

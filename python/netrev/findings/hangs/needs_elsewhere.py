@@ -10,23 +10,17 @@ from netrev.findings.evidence.need import Certainty, Need
 from netrev.findings.evidence.responses import SERVE, contains, server_of, socket_of
 from netrev.findings.evidence.waiters import Waiter
 from netrev.findings.handovers.dropped_answers import Hand, by_socket, dropped_answer, hands_of, is_for_values
-from netrev.findings.handovers.dropped_requests import dropped_request
 from netrev.findings.handovers.ended_hands import ended_hand
-from netrev.findings.handovers.needs_of_channels import NOBODY, NeedsOfChannels
+from netrev.findings.handovers.needs_of_channels import NeedsOfChannels
 from netrev.findings.handovers.own_readers import of_own_reader
 from netrev.findings.http.bodies_left_open import open_bodies
-from netrev.findings.http.held_answers import held_back
-from netrev.findings.http.rpc_calls import dropped_by_rpc
 from netrev.findings.locks.groups import Groups
 from netrev.findings.locks.mutex_holders import MutexHolders
 from netrev.findings.locks.needs_of_mutexes import NeedsOfMutexes
-from netrev.findings.locks.sync_conditions import single_signal, unsignalled
-from netrev.findings.pools.later_closes import closed_later
 from netrev.findings.pools.made_channels import without_receiver
 from netrev.findings.pools.stopped_timers import of_timers, timers_of_select
-from netrev.findings.source.requests_without_context import contextless_sentence
 from netrev.findings.streams.unaccepted_connections import is_dialed
-from netrev.recording.goroutines import A_CONDITION, A_SELECT, A_WAIT_GROUP, MUTEXES
+from netrev.recording.goroutines import A_CONDITION, A_WAIT_GROUP, MUTEXES
 from netrev.recording.waits import A_CONNECTION, A_RESPONSE, ALL_REQUESTS, LAST_USE, Name, ObjectWait, Waits
 from netrev.recording.where import OF_THE_PROGRAM, Stack
 from netrev.run.index import READING, RunIndex, back
@@ -43,8 +37,6 @@ class NeedsElsewhere:
         self._channels = NeedsOfChannels(self._recording, waits, self._ledger, waiters, dict(stacks), self._does)
         # the goroutines that pass values on to the goroutines that wait at a line
         self._hands: dict[Hashable, dict[int, list[Hand]]] = {}
-        self._later: dict[Hashable, Need | None] = {}  # what ends the selects of each line
-        self._conditions: dict[Hashable, list[str]] = {}  # the sentences about waits, keyed by their lines and objects
         self._mutexes = NeedsOfMutexes(self._recording, self._ledger, waiters, stacks, self._does)
         self._holders = MutexHolders(self._recording, waiters, position, self._does)
 
@@ -62,8 +54,7 @@ class NeedsElsewhere:
             need = of_own_reader(self._index, wait, self._position) or need
         more = [*timers_of_select(self._recording, wait), *self._channels.besides(wait)]
         more += without_receiver(self._index, wait, self._position)
-        beside = dropped_by_rpc(self._recording, wait)
-        return need._replace(more=[*need.more, *more], beside=(*need.beside, *beside))
+        return need._replace(more=[*need.more, *more])
 
     def _of(self, waiter: Waiter, wait: ObjectWait) -> Need:
         kind = wait.kind
@@ -87,26 +78,21 @@ class NeedsElsewhere:
             return answer
         if len(wait.objects) == 1 and (balance := self._channels.of_balance(wait)):
             return balance
-        more = self._of_condition(wait) if kind == A_CONDITION else []
-        if kind == A_SELECT and (later := self._closed_later(wait)):
-            return later
         if by := self._ended_before(wait):
-            more = more or (self._channels.more_of(wait) if kind != A_CONDITION else [])
-            beside = tuple(more) if kind == A_CONDITION else ()
-            return Need([], by, "{by} ended its wait there before", Certainty.LIKELY, more=more, beside=beside)
+            return Need([], by, "{by} ended its wait there before", Certainty.LIKELY)
         if kind == A_CONDITION:
-            return Need([], more=more, is_odd=bool(more))
+            return Need([])
         if kind == A_WAIT_GROUP and (need := self._groups.of(waiter, self._waiters, self._does)):
             return need
         if left := self._channels.left_without(wait):
             return Need(left)
         if self._channels.is_new(wait) and (by := self._ended_before(wait, elsewhere=True)):
             how = "perhaps {by} ends it, as it ended a wait at that line before"
-            return Need([], by, how, Certainty.PERHAPS, more=self._channels.more_of(wait))
+            return Need([], by, how, Certainty.PERHAPS)
         need = self._channels.of(wait)
         if need == Need([]) and (by := self._reader_for(wait)):
             how = "perhaps {by} reads the answer"
-            return Need([], by, how, Certainty.PERHAPS, more=self._channels.more_of(wait))
+            return Need([], by, how, Certainty.PERHAPS)
         return need
 
     def _reader_for(self, wait: ObjectWait) -> Name | None:
@@ -130,23 +116,13 @@ class NeedsElsewhere:
 
     def _of_answer(self, wait: ObjectWait) -> Need | None:
         """What a goroutine needs while it waits for an answer. Another goroutine read the answer but didn't pass it on,
-        took the request but didn't answer it, or has ended."""
+        or has ended."""
         if not is_for_values(wait):
             return None
         own = wait.stack.own()
         if own not in self._hands:
             self._hands[own] = by_socket(hands_of(self._recording, wait, self._waiters))
-        found = dropped_answer(self._index, wait, self._hands[own])
-        return found or dropped_request(self._recording, wait, self._waiters) or ended_hand(self._index, wait)
-
-    def _closed_later(self, wait: ObjectWait) -> Need | None:
-        """What a goroutine needs while it waits in a select: another goroutine that will later close a channel or
-        cancel a context. The result is computed once for all selects of a line."""
-        key = "later", wait.stack.own()
-        if key not in self._later:
-            self._later[key] = closed_later(self._recording, wait._replace(name=NOBODY), self._stacks())
-        need = self._later[key]
-        return closed_later(self._recording, wait, self._stacks()) if need and need.by == wait.name else need
+        return dropped_answer(self._index, wait, self._hands[own]) or ended_hand(self._index, wait)
 
     def excess_of(self, names: set[Name]) -> list[str]:
         """Sentences about these goroutines' calls, if they gave values back to a channel more often than they took
@@ -166,17 +142,6 @@ class NeedsElsewhere:
             return Need([])
         says = f"{text_of_call(self._recording, users[-1])} uses socket {closes.socket} since step {users[-1].first}."
         return Need([says], Name(users[-1].goroutine), "{by} uses the descriptor")
-
-    def _of_condition(self, wait: ObjectWait) -> list[str]:
-        """Sentences about a goroutine's wait on a sync.Cond. They name the function that should have woken this
-        goroutine, or that should have woken all waiters."""
-        key = wait.stack.own(), wait.objects
-        if key not in self._conditions:
-            alike = [waiter for waiter in self._waiters.values() if waiter.wait and waiter.wait.objects == wait.objects]
-            self._conditions[key] = unsignalled(self._recording, wait) or single_signal(
-                self._recording, wait, len(alike)
-            )
-        return self._conditions[key]
 
     def _of_connection(self) -> Need:
         """What a net/http request needs while it waits for a connection: the goroutine that perhaps has the
@@ -214,9 +179,7 @@ class NeedsElsewhere:
             return None
         does = "" if server in self._waiters else self._does(server)
         says = [f"{str(server).capitalize()} serves the request on socket {socket}; it {does}."] if does else []
-        held = held_back(self._index, socket, self._position)
-        beside = *held, *contextless_sentence(self._recording, wait)
-        return Need(says, server, "{by} serves the request", Certainty.LIKELY, more=held, beside=beside)
+        return Need(says, server, "{by} serves the request", Certainty.LIKELY)
 
     def _reads_on(self, server: Name) -> bool:
         """Whether a server's goroutine waits for the next request, and so serves no request now."""

@@ -1,19 +1,14 @@
 """Bodies of net/http that end before their Content-Length: a Read of the remaining bytes reached the end of the
 stream."""
 
-import re
 from collections.abc import Iterator
 
-from netrev.findings.source.package import places_with
 from netrev.recording.call import Call, Outcome
 from netrev.recording.recording import Recording
-from netrev.recording.where import OF_THE_PROGRAM
 from netrev.run.index import RunIndex
 
 OF_A_BODY, OF_A_LENGTH = "net/http.(*body).", "io.(*LimitedReader).Read"
-SETS_LENGTH = re.compile(r"[\"']Content-Length[\"']|\bContentLength *=")
 OF_A_CLIENT = "net/http.(*persistConn)."
-MOST = 2
 
 
 def cut_bodies(index: RunIndex) -> Iterator[Call]:
@@ -28,12 +23,8 @@ def is_of_a_body(recording: Recording, call: Call) -> bool:
     return OF_A_LENGTH in functions and any(function.startswith(OF_A_BODY) for function in functions)
 
 
-def body_sentence(recording: Recording, call: Call, closed: Call) -> list[str]:
-    """Sentences about a body that is shorter than its Content-Length because the other end was closed. The sentences
-    name the lines of the program that set a Content-Length."""
-    file = next((frame.file for frame in recording.lines.of(call.first).calls if frame.of == OF_THE_PROGRAM), "")
-    places = places_with(recording, file, SETS_LENGTH) if file else []
-    sets = f", which {' and '.join(places[:MOST])} set{'' if places[1:] else 's'}" if 0 < len(places) <= MOST else ""
+def body_sentence(recording: Recording, closed: Call) -> list[str]:
+    """A sentence about a body that is shorter than its Content-Length because the other end was closed."""
     if any(frame.function.startswith(OF_A_CLIENT) for frame in recording.lines.of(closed.first).calls):
         return ["The body of the request ended before its Content-Length: the client closed the connection."]
-    return [f"The body ended before its Content-Length{sets}: the server closed the connection."]
+    return ["The body ended before its Content-Length: the server closed the connection."]

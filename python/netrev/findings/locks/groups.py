@@ -18,7 +18,6 @@ from netrev.recording.where import OF_THE_PROGRAM, SourceCall, Stack
 from netrev.run.index import RunIndex
 
 from .group_counts import Count, count_of, count_sentence, ended_names, ended_sentence, started_by
-from .skipped_done import skipped_done
 
 LITERAL = re.compile(r"\.(?:func\d+|gowrap\d+|deferwrap\d+)(?:\..*)?\Z")
 ADD = re.compile(r"([\w.\[\]]+)\.Add\(")
@@ -70,9 +69,6 @@ class Groups:
             )
         if count and (passed := self._passed_by(count, does)):
             return Need(passed, is_odd=True)
-        skipped = skipped_done(self._recording, self._waits, count, self._position) if count else []
-        if skipped:
-            return Need(skipped)
         members = self._in_order(
             [candidate for candidate in self._members[calls] if candidate.name != waiter.name], count
         )

@@ -4,14 +4,10 @@ were locked at the end."""
 from collections.abc import Callable, Iterator, Mapping
 from typing import NamedTuple
 
-from netrev.findings.evidence.call_words import place_in, short
+from netrev.findings.evidence.call_words import place_in
 from netrev.findings.evidence.need import GOES_FIRST, Certainty, Need
 from netrev.findings.evidence.responses import contains
 from netrev.findings.evidence.waiters import Waiter
-from netrev.findings.source.copied_structs import copies_sentence
-from netrev.findings.source.functions import found_in, text_at
-from netrev.findings.source.locks import LOCK, UNLOCK
-from netrev.findings.source.missing_unlocks import returns_locked
 from netrev.recording.goroutines import READ, HeldMutex
 from netrev.recording.recording import Recording
 from netrev.recording.waits import Name, ObjectWait, name_of_goid
@@ -68,7 +64,7 @@ class MutexHolders:
         holders = list(self._holders(wait))
         mine = [holder for holder in holders if holder.name == wait.name]
         if mine and not self._is_pending(wait, mine[0]):
-            return self._of_itself(wait, mine[0])
+            return self._of_itself(mine[0])
         others = [holder for holder in holders if holder.name != wait.name]
         return self._of_holder(wait, others[0], others[1:]) if others else self._of_nobody(wait)
 
@@ -96,22 +92,17 @@ class MutexHolders:
         is_in_mutex = any(MUTEX_OF_GO in function for function in inside)
         return not holder.is_reader and not is_in_mutex and any(WRITES in function for function in inside)
 
-    def _of_itself(self, wait: ObjectWait, holder: Holder) -> Need:
+    @staticmethod
+    def _of_itself(holder: Holder) -> Need:
         """What a waiting goroutine needs if it has already locked the mutex itself."""
-        if left := self._left_locked(holder, wait.stack):
-            return left
         return Need([f"It {holder.how} itself{holder.locked}: Lock waits for its own goroutine."], is_odd=True)
 
     def _of_holder(self, wait: ObjectWait, holder: Holder, more: list[Holder]) -> Need:
         """What a waiting goroutine needs if another goroutine holds the mutex."""
-        call, does = holder.call, self._does(holder.name)
+        does, waiter = self._does(holder.name), self._waiters.get(holder.name)
         if does.startswith("ended"):
-            left = returns_locked(self._recording, call) if call else []
-            says = [f"{locked_words(holder)} and {does}, without unlocking it.", *left]
-            return Need(says, is_odd=True, gone=holder.name)
-        waiter = self._waiters.get(holder.name)
-        if waiter and (need := self._left_locked(holder, waiter.stack)):
-            return need
+            says = f"{locked_words(holder)} and {does}, without unlocking it."
+            return Need([says], is_odd=True, gone=holder.name)
         do = "does" if len(more) == 1 else "do"
         others = f" (so {do} {counted(len(more), 'more reader')})" if more and holder.is_reader else ""
         if (
@@ -126,30 +117,14 @@ class MutexHolders:
         doing = f", which {does}" if does else ""
         return Need([f"{str(holder.name).capitalize()} {holder.how}{holder.locked}{others}{doing}."], is_odd=True)
 
-    def _left_locked(self, holder: Holder, now: Stack) -> Need | None:
-        """What a waiting goroutine needs if the holder's stack shows that the holder has left the function that locked
-        the mutex. On other paths, that function unlocks the mutex. Else None."""
-        call = holder.call
-        if call is None or not now.calls or any(frame.function == call.function for frame in now.calls):
-            return None
-        name = LOCK.search(text_at(self._recording, call))
-        if name is None or name[1] not in [found[1] for _, found in found_in(self._recording, call, UNLOCK)]:
-            return None
-        says = f"{locked_words(holder)}, and returned from {short(call.function)} with it locked."
-        return Need([says, *returns_locked(self._recording, call)], is_odd=True, gone=holder.name)
-
     def _of_nobody(self, wait: ObjectWait) -> Need:
         """What a goroutine needs if no goroutine holds the mutex. If the waiter has waited for more than a moment, the
         mutex may be a copy of a locked mutex."""
         times = self._recording.lines.times
         if not times or times[-1] - wait.begin < A_MOMENT:
             return Need([])
-        own = wait.stack.own()
-        at = copies_sentence(self._recording, own[0]) if own else ""
-        return Need(
-            [f"No goroutine has locked it. Perhaps it is a copy of a mutex that was locked as it was copied{at}."],
-            is_odd=True,
-        )
+        says = "No goroutine has locked it. Perhaps it is a copy of a mutex that was locked as it was copied."
+        return Need([says], is_odd=True)
 
 
 def locked_words(holder: Holder) -> str:

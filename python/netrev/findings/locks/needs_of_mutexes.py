@@ -9,7 +9,6 @@ from netrev.findings.evidence.need import Certainty, Need
 from netrev.findings.evidence.waiters import Waiter
 from netrev.findings.source.functions import is_same_variable, source_of, text_at
 from netrev.findings.source.locks import LOCK, LockedMutex, held_at, owner
-from netrev.findings.source.missing_unlocks import left_locked
 from netrev.findings.source.package import place_of_variable
 from netrev.recording.goroutines import MUTEXES
 from netrev.recording.recording import Recording
@@ -70,8 +69,7 @@ class NeedsOfMutexes:
         if not holders and (crossed := self._crossed(waiter, wait)):
             return crossed
         if not holders:
-            says = left_locked(self._recording, found[0])
-            return Need(says) if says else None
+            return None
         first = holders[0]
         is_likely = first.name in self._last(wait)
         perhaps, certainty = ("", Certainty.LIKELY) if is_likely else ("perhaps ", Certainty.PERHAPS)

@@ -73,15 +73,6 @@ def is_deferred(lines: Lines, number: int) -> bool:
     return any(lines[at - 1].lstrip().startswith("defer ") for at in (number, begin) if at)
 
 
-def givings_at(recording: Recording, wait: ObjectWait) -> list[Giving]:
-    """The lines with the awaited operation on a channel, from the source."""
-    own = wait.stack.own()
-    mine, others = (TAKES, PUTS) if wait.objects[0].use == FOR_VALUE else (PUTS, TAKES)
-    name = mine.search(text_at(recording, own[0])) if own else None
-    source = source_of(recording, own[0].file) if own else None
-    return givings_of(source, own[0], name[1], others) if own and name and source else []
-
-
 def givings_of(source: Lines, call: SourceCall, name: str, pattern: "re.Pattern[str]") -> list[Giving]:
     """The lines that do an operation on a channel that may have this name."""
     found = []

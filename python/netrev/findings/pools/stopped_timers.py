@@ -1,20 +1,16 @@
 """Timers and tickers that will send nothing more: a timer or ticker that was stopped and not reset, and a timer whose
 only value was taken."""
 
-import re
 from typing import NamedTuple
 
 from netrev.findings.evidence.call_words import place_in
 from netrev.findings.evidence.need import Need
 from netrev.findings.evidence.waiters import TICKERS, last_time_of
-from netrev.findings.source.functions import range_of, source_of
-from netrev.findings.source.skipping_paths import is_match, is_text, paths_are, paths_text, skipped_paths, that_stay
 from netrev.recording.goroutines import TOOK, Timer
 from netrev.recording.recording import Recording
 from netrev.recording.waits import ObjectWait, name_of_goid
 from netrev.recording.where import OF_THE_PROGRAM, Stack
 
-CASE = re.compile(r"(?:case )?(?:\w+ :?= )?<-([\w.]+)\.C:?$")
 ONCE = ("time.NewTimer", "time.After", "time.(*Timer).Reset")
 
 LATE = 20_000_000  # nanoseconds by which a timer may go off late
@@ -80,45 +76,14 @@ def of_timers(recording: Recording, wait: ObjectWait) -> Need | None:
     silent = silent_at(recording, wait.objects[0].object, wait.begin) if len(wait.objects) == 1 else None
     if not silent or not own or own[0].of != OF_THE_PROGRAM:
         return None
-    return Need([f"{silent_sentence(recording, silent)}{'' if silent.stopped else paths_past_reset(recording, wait)}"])
+    return Need([silent_sentence(recording, silent)])
 
 
 def timers_of_select(recording: Recording, wait: ObjectWait) -> list[str]:
     """Sentences about stopped timers in a select, which will never send."""
     candidates = (silent_at(recording, at.object, wait.begin) for at in wait.objects) if len(wait.objects) > 1 else ()
     silent = next((candidate for candidate in candidates if candidate), None)
-    if silent is None:
-        return []
-    ways = "" if silent.stopped else paths_past_reset(recording, wait)
-    return [f"One of its cases can't come: {lower(silent_sentence(recording, silent))}{ways}"]
-
-
-def paths_past_reset(recording: Recording, wait: ObjectWait) -> str:
-    """A sentence about a timer that has gone off and was perhaps not set again. It names the path in the program's
-    source that skips the reset: ` Perhaps on this way: after main.go:65, main.go:67 goes on without main.go:75, which
-    sets it anew.` The sentence is empty if no such path exists."""
-    own = wait.stack.own()
-    lines = source_of(recording, own[0].file) if own and own[0].of == OF_THE_PROGRAM else None
-    within = range_of(lines, own[0]) if lines and own else None
-    if not own or not lines or not within:
-        return ""
-    text = {number: lines[number - 1].partition("//")[0].strip() for number in within}
-    is_case = not CASE.match(text[own[0].line])
-    cases = [
-        (number, found[1])
-        for number, code in text.items()
-        if (is_case and code.startswith("case ") and number > own[0].line or number == own[0].line)
-        and (found := CASE.match(code))
-    ]
-    name = cases[0][1] if cases else ""
-    resets = [number for number, code in text.items() if f"{name}.Reset(" in code]
-    if len(cases) != 1 or not resets:
-        return ""
-    sets = is_match(rf"(?<![\w.]){re.escape(name)}\.Reset\(")
-    ways = that_stay(skipped_paths(lines, within, is_text(text[cases[0][0]]), sets))
-    file, does = own[0].file, paths_text(own[0].file, ways)
-    words = f"after {file}:{cases[0][0]}, {does} without {file}:{resets[-1]}, which sets it anew"
-    return f" Perhaps {paths_are(ways)}: {words}." if ways else ""
+    return [f"One of its cases can't come: {lower(silent_sentence(recording, silent))}"] if silent else []
 
 
 def lower(words: str) -> str:

@@ -200,22 +200,16 @@ def joined(states: list[PathState], number: int) -> PathState | None:
     return PathState(is_open, is_done, block or (number if is_done else 0))
 
 
-def skipped_paths(lines: Lines, within: range, begins: Test | None, ends: Test, keeps: Test = nothing) -> list[Way]:
+def skipped_paths(lines: Lines, within: range, begins: Test, ends: Test, keeps: Test = nothing) -> list[Way]:
     """The paths of a function that skip the statements matched by `ends`. They begin at a statement matched by
-    `begins`, or at the beginning of the function if `begins` is None. The list is empty if no path leads from such a
-    beginning to a statement matched by `ends`."""
+    `begins`. The list is empty if no path leads from such a statement to a statement matched by `ends`."""
     if any(lines[number - 1].count("`") % 2 for number in within):
         return []
-    walk = Walk(begins or nothing, ends, keeps, [], [])
-    after, left = walk.body(statements_of(lines, within), BEFORE if begins else OPEN, "")
+    walk = Walk(begins, ends, keeps, [], [])
+    after, left = walk.body(statements_of(lines, within), BEFORE, "")
     for exit in [*left, *([Exit("end", within[-1], after)] if after else [])]:
         walk.leave(exit)
     return sorted(set(walk.ways)) if walk.given else []
-
-
-def that_stay(ways: list[Way]) -> list[Way]:
-    """The paths on which a goroutine continues in a function instead of leaving the function."""
-    return [way for way in ways if way.does not in (DOES["return"], DOES["end"])]
 
 
 def paths_are(ways: list[Way]) -> str:

@@ -14,8 +14,6 @@ from netrev.run.index import MOVING, RunIndex, back
 from netrev.text.plurals import counted
 
 from .ends_of_reads import line_reader_of
-from .flushes import paths_around_flush, paths_without_answer, writes_through_a_buffer
-from .frame_lengths import is_of_a_body, length_sentence
 from .left_in_buffers import never_flushed
 from .unaccepted_connections import is_dialed
 
@@ -114,7 +112,7 @@ def unanswered(index: RunIndex, call: Call, other: int, position: int) -> list[s
         return []
     if not answers:
         return unended(index, request, read, now)
-    if len(answers) < FEWEST and not paths_around_flush(index.recording, index.recording.lines.of(now.first)):
+    if len(answers) < FEWEST:
         return []
     return [
         f"The request, {text_of_call(index.recording, request)} in {request.steps()}, was read by "
@@ -141,44 +139,17 @@ def unended(index: RunIndex, request: Call, read: Call, now: Call) -> list[str]:
 
 
 def perhaps_why(index: RunIndex, call: Call, now: Call) -> str:
-    """Why a goroutine that looks for the end of a line perhaps reads on: an answer was skipped or is still in a buffer,
-    or the request lacks its end. If a path skips the answer or its Flush, the text begins with the answer, and leaves
-    out the request if an earlier request like it was answered. Otherwise the text has both reasons. It begins with the
-    answer if the function writes through a buffer. If the source isn't available, it does so if an earlier request with
-    the same number of Writes was answered."""
+    """Why a goroutine that looks for the end of a line perhaps reads on: the answer is still in a buffer, or the
+    request lacks its end. The text begins with the answer if an earlier request with the same number of Writes was
+    answered."""
     line = line_reader_of(index, now)
     if not line:
         return ""
     *before, last = exchanges_of(index, call.goroutine, call.socket, call.first)
-    stack = index.recording.lines.of(now.first)
-    is_buffered = writes_through_a_buffer(index.recording, stack)
-    if is_buffered is None:
-        is_buffered = any(exchange.reads and len(exchange.writes) == len(last.writes) for exchange in before)
+    is_whole = any(exchange.reads and len(exchange.writes) == len(last.writes) for exchange in before)
     lacks = f"the request lacks what ends it, for which {line} reads on"
-    ways = paths_around_flush(index.recording, stack)
-    kept = f"the answer is in a buffer that wasn't flushed{ways}"
-    skips = "" if ways else skips_an_answer(index, now)
-    if ways or skips:
-        is_whole = any(exchange.reads and are_alike(index, exchange.writes, last.writes) for exchange in before)
-        return f" Perhaps {skips or kept}." if is_whole else f" Perhaps {skips or kept}; or {lacks}."
-    return f" Perhaps {kept}; or {lacks}." if is_buffered else f" Perhaps {lacks}; or {kept}."
-
-
-def skips_an_answer(index: RunIndex, now: Call) -> str:
-    """Text for a path on which a goroutine perhaps reads on without an answer; empty if the source has no such
-    path."""
-    calls = (
-        write for write in index.by_socket[now.socket] if write.goroutine == now.goroutine and write.name == "Write"
-    )
-    stacks = {index.recording.lines.of(write.first) for write in calls}
-    ways = paths_without_answer(index.recording, index.recording.lines.of(now.first), stacks)
-    return f"it gives no answer there: {ways}" if ways else ""
-
-
-def are_alike(index: RunIndex, writes: list[Call], others: list[Call]) -> bool:
-    """Whether the same lines wrote two requests."""
-    places = [[index.recording.lines.of(write.first).own() for write in some] for some in (writes, others)]
-    return places[0] == places[1]
+    kept = "the answer is in a buffer that wasn't flushed"
+    return f" Perhaps {kept}; or {lacks}." if is_whole else f" Perhaps {lacks}; or {kept}."
 
 
 def reader_of(index: RunIndex, other: int, request: Call, position: int) -> Call | None:
@@ -210,39 +181,27 @@ def lacking(index: RunIndex, call: Call, other: int) -> list[str]:
     ):
         return []
     is_of_a_buffer = rest & (rest - 1) == 0 and any(frame.function.startswith("bufio.") for frame in stack.calls)
-    if begin is call and is_of_a_buffer and is_of_a_body(recording, call):
-        return [
-            f"It waits for the rest of a message: {text_of_call(recording, write)} was the last there.",
-            *length_sentence(recording, write, call),
-        ]
     if begin is call and (rest < FEW_ASKED or is_of_a_buffer):
         return []
     if is_cut(recording, index, (call.socket, other)) and not are_known(index):
-        return (
-            []
-            if begin is call
-            else [
-                f"Perhaps fewer bytes were sent than it was told to read: it asked for {whole} and has {whole - rest}, so {rest} more must come. "
-                f"{text_of_call(recording, write)}, the last there, ended in step {write.last}, and nobody writes there "
-                ""
-                "now.",
-                *length_sentence(recording, write, begin),
-            ]
-        )
+        if begin is call:
+            return []
+        return [
+            f"Perhaps fewer bytes were sent than it was told to read: it asked for {whole} and has {whole - rest}, so {rest} more must come. "
+            f"{text_of_call(recording, write)}, the last there, ended in step {write.last}, and nobody writes there now."
+        ]
     if moved_at(index, call.socket, "Read", recording.length) != moved_at(index, other, "Write", recording.length):
         return []
     if begin is call:
         return [
             f"It asks for {'at least ' if rest >= MOST_ASKED else ''}{counted(rest, 'byte')}: "
             f"{text_of_call(recording, write)}, the last there, put {counted(size_of(index, write), 'byte')}, and all "
-            "of them are read.",
-            *length_sentence(recording, write, begin),
+            "of them are read."
         ]
     return [
         f"It asked for {counted(whole, 'byte')} and has {whole - rest}: {text_of_call(recording, write)}, the last "
         f"there, put {counted(size_of(index, write), 'byte')}, and all of them are read. "
-        f"{counted(rest, 'byte')} more must come.",
-        *length_sentence(recording, write, begin),
+        f"{counted(rest, 'byte')} more must come."
     ]
 
 
