@@ -20,8 +20,7 @@ from page_rules.tree import Finding, Tree
 
 PAGE = "docs/proof/THEOREM.md"
 HEADING = "## Reading list"
-# other places that have the numbers in their text
-PAGES = (PAGE, "docs/proof/TRUSTED.md")
+PAGES = (PAGE, "docs/proof/TRUSTED.md")  # places that have the numbers in their text
 # the heading in a crate's specs/Lib.antt for the files with definitions that the laws use
 BELIEVED = "-- files with the definitions that the laws in THEOREM.md use"
 LISTED = re.compile(r"pub mod (\w+)")
@@ -61,8 +60,7 @@ LAWS = (
     ),
 )
 
-# the hunts, whose files also contain definitions of the proofs
-HUNTS = (
+HUNTS = (  # their files also contain definitions of the proofs
     Law("what `suspects` writes", ("nr_programs/Suspects:ShowsSuspects",), 1700),
     Law(
         "the laws of the hunts",
@@ -81,20 +79,11 @@ HUNTS = (
             "nr_suspects/References:taken",
             "nr_suspects/LockedSides:is_locked",
             "nr_rev/Step:owing",
+            "nr_protocol/Deadlines:WillPass",
+            "nr_protocol/Sleep:IsOfLinux",
             "nr_programs/Suspects:ShowsSuspects",
         ),
         2000,
-    ),
-    Law(
-        "no goroutine sleeps past a close or a deadline",
-        (
-            "nr_protocol/Deadlines:WillPass",
-            "nr_protocol/Sleep:IsOfLinux",
-            "nr_rev/Descriptor:check",
-            "nr_rev/Run:world_at",
-            "nr_rev/WellFormed:parked_of",
-        ),
-        900,
     ),
 )
 
@@ -241,8 +230,8 @@ def reading_list(tree: Tree) -> Iterator[Finding]:
                 f"{law.says} rests on {lines:,} lines of definitions, but at most {law.most_lines:,} are allowed",
             )
     yield from _differences(tree.text(PAGE), [row for row in tables(tree) if row])
-    of_all = found.all | hunts.all
-    counts = [found.count(places) for places in (*found.of_laws, found.all, *hunts.of_laws, hunts.all, of_all)]
+    every = (*found.of_laws, found.all, *hunts.of_laws, hunts.all, found.all | hunts.all)
+    counts = [found.count(places) for places in every]
     yield from _in_words(tree, {(f"{count.definitions:,}", f"{count.lines:,}") for count in counts})
 
 

@@ -196,11 +196,9 @@ class Served:
         for log in logs.iterdir():
             if of_log is not None and ".program" not in log.name:
                 with log.open("rb") as file:
-                    header = Header(file.read(HEADER_BYTES))
-                    header.count(file)
-                    points = header.passed / (self.requests + self.requests // WARMING)
-                self.points[connections, way].append(points)
-                self.kept[connections, way][-1] = points * POINT_BYTES
+                    passed = Header(file.read(HEADER_BYTES)).counted(file).passed
+                self.points[connections, way].append(passed / (self.requests + self.requests // WARMING))
+                self.kept[connections, way][-1] = self.points[connections, way][-1] * POINT_BYTES
             log.unlink()
 
     def tell(self) -> None:

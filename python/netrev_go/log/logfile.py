@@ -80,8 +80,8 @@ class Header:
         self.ring = self.rows_begin + self.rows * ROW_BYTES + self.queue * WAITER_BYTES
         self.end = self.ring + self.points * POINT_BYTES
 
-    def count(self, file: BinaryIO) -> None:
-        """Counts the points that were logged after the header was last written."""
+    def counted(self, file: BinaryIO) -> Header:
+        """The header, which also counts the points that were logged after it was last written."""
         newest = self.passed
         while newest < self.passed + self.points:
             place = newest % self.points
@@ -92,6 +92,7 @@ class Header:
                 break
             newest = found[-1].number + 1
         self.passed = min(newest, self.ended - 1) if self.ended else newest
+        return self
 
     def notes(self, size: int) -> list[str]:
         """What a log of this many bytes lacks by its header."""
@@ -285,9 +286,8 @@ def copy_of(file: BinaryIO) -> BinaryIO:
 
 def log_of(file: BinaryIO, is_written: bool = False) -> Log:
     """The log in an open file. While the file was copied, the oldest points may have been replaced."""
-    header = Header(file.read(HEADER_BYTES))
+    header = Header(file.read(HEADER_BYTES)).counted(file)
     is_written = is_written or header.is_copy
-    header.count(file)
     size = file.seek(0, io.SEEK_END)
     file.seek(HEADER_BYTES)
     stacks = read_stacks(file, header.stacks)

@@ -7,9 +7,7 @@ dev.recorder.fetching fetches.
 
 import io
 import os
-import re
 import subprocess
-import sys
 import tempfile
 from collections.abc import Iterator
 from contextlib import contextmanager
@@ -122,8 +120,7 @@ def text_of(log: Log, points: list[Point]) -> str:
 def raw_points(path: Path) -> list[Point]:
     """A log's points with the times as they were logged."""
     text = path.read_bytes()
-    header = Header(text)
-    header.count(io.BytesIO(text))
+    header = Header(text).counted(io.BytesIO(text))
     assert header.passed <= header.points
     return points_of(text[header.ring : header.ring + 64 * header.passed], 0)
 
