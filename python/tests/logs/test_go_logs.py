@@ -12,7 +12,7 @@ import pytest
 from dev.fuzz.generators.logs import STACKS, binary, from_text, packed
 from netrev.recording.where import SourceLines
 from netrev_go.log import source_lines
-from netrev_go.log.logfile import HEADER_BYTES, NotALogError, read_log
+from netrev_go.log.logfile import HEADER_BYTES, Header, NotALogError, read_log
 from netrev_go.log.points import Log, Point, PointKind
 from netrev_go.log.source_lines import Calls, LineCall, SourceRoots, lines_of, looked_up
 from netrev_go.steps import conversion
@@ -174,6 +174,23 @@ def test_a_call_of_another_goroutine_too() -> None:
     assert stacks((PointKind.RW_LOCK, 1, 0, 5), (PointKind.INCREF, 1, 0, 0), (PointKind.DECREF, 1, 0, 0)) == [5, 5, 5]
     first, second = (PointKind.INCREF, 2, 0, 6), (PointKind.INCREF, 3, 0, 7)
     assert stacks(first, second, (PointKind.DECREF, 2, 0, 0)) == [6, 7, 6]
+
+
+@pytest.mark.parametrize(
+    "asked, namespace, is_copy, size, said",
+    [
+        (0, 1, 0, 0, []), (0, 1, 0, -1, ["the log was truncated while the program ran: recording ended then"]), (0, 1, 1, -1, []), (0, 0, 0, -1, []),
+        (2**64 - 1, 1, 0, 0, ["NETREV_POINTS isn't a number, so the log has {points} points"]), (2**25, 1, 0, 0, ["the log has {points} points, because it can't have 33554432"]),
+        (1, 1, 0, 0, ["the log has {points} points, because it can't have 1"]),
+        (2**20, 1, 0, 0, ["the log has {points} points instead of 1048576, because its file system had no room for more"]),
+    ],
+)  # fmt: skip
+def test_what_a_log_lacks_by_its_header(asked: int, namespace: int, is_copy: int, size: int, said: list[str]) -> None:
+    text = bytearray(binary(opened(3)))
+    struct.pack_into("<Q", text, 17 * 8, is_copy)
+    struct.pack_into("<2Q", text, 19 * 8, asked, namespace)
+    header = Header(bytes(text))
+    assert header.notes(header.end + size) == [line.format(points=header.points) for line in said]
 
 
 def test_what_is_no_log_is_said() -> None:

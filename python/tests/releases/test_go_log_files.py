@@ -79,6 +79,18 @@ def test_a_damaged_log_changes_nothing(server: Path, way: str, processors: int) 
         assert (why, requests > 0) == ("", True)
 
 
+def test_a_header_that_is_overwritten_is_written_again(server: Path, folder: Path) -> None:
+    with running([server], folder) as process:
+        log = folder / f"log.{process}"
+        before, until = header_of(log), time.monotonic() + 20
+        with log.open("r+b") as file:
+            file.write(b"x" * HEADER_BYTES)
+        while log.read_bytes()[:1] == b"x" and time.monotonic() < until:
+            time.sleep(0.05)
+        after = header_of(log)
+        assert (after.points, after.program, after.process) == (before.points, before.program, process)
+
+
 def test_a_lost_log_isnt_copied_at_a_signal(server: Path, folder: Path) -> None:
     with running([server], folder, NETREV_SIGNAL="usr2") as process:
         os.truncate(folder / f"log.{process}", 0)
