@@ -25,7 +25,7 @@ from pathlib import Path
 from netrev_go.go_command.process_logs import log_of_process
 from netrev_go.go_command.running import places
 from netrev_go.go_command.toolchain import RecorderError
-from netrev_go.log.logfile import HEADER_BYTES, PAGE
+from netrev_go.log.logfile import PAGE
 
 from .go_snapshots import PROCESSORS, build
 from .go_untouched import go_of
@@ -50,10 +50,10 @@ def punch(log: Path, begin: int, size: int) -> None:
         assert call(file.fileno(), KEEP_SIZE | PUNCH_HOLE, begin, size) == 0, os.strerror(ctypes.get_errno())
 
 
-def overwrite(log: Path, chance: random.Random, begin: int) -> None:
+def overwrite(log: Path, chance: random.Random, begin: int, end: int) -> None:
     with log.open("r+b") as file:
         file.seek(begin)
-        file.write(chance.randbytes(min(chance.randrange(1, 2**22), log.stat().st_size - begin)))
+        file.write(chance.randbytes(end - begin))
 
 
 def fill(log: Path, _: random.Random) -> None:
@@ -81,8 +81,8 @@ def fail(log: Path, chance: random.Random) -> None:
 WAYS: dict[str, Damage] = {
     "truncated to 0": lambda log, _: os.truncate(log, 0),
     "truncated": lambda log, chance: os.truncate(log, chance.randrange(log.stat().st_size - 4 * PAGE)),
-    "overwritten": lambda log, chance: overwrite(log, chance, chance.randrange(log.stat().st_size)),
-    "header and tables overwritten": lambda log, chance: overwrite(log, chance, chance.randrange(HEADER_BYTES)),
+    "overwritten": lambda log, chance: overwrite(log, chance, *sorted(chance.choices(range(log.stat().st_size), k=2))),
+    "all overwritten": lambda log, chance: overwrite(log, chance, chance.randrange(8), log.stat().st_size),
     "removed": lambda log, _: log.unlink(),
     "chmod 000": lambda log, _: log.chmod(0),
     "hole": lambda log, chance: punch(log, chance.randrange(log.stat().st_size), chance.randrange(1, 2**23)),
