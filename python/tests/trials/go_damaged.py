@@ -35,6 +35,7 @@ POINTS = 2**15
 EARLIEST, LATEST = 0.05, 0.4  # seconds from the log's begin to the damage
 AFTER = 0.2  # seconds that the server goes on
 PATIENCE = 120.0  # seconds
+SLOWEST = 20.0  # seconds, within which a busy machine lets the server use its log
 MOST_GROWTH = 16_384  # kB: the recorder's tables, and what a server needs anyway
 DEVICE_BYTES = 96 * 2**20
 LARGE = 2**20  # points, for which a device has no room
@@ -150,7 +151,10 @@ def damaged(program: Path, processors: int, name: str, seed: str) -> tuple[int, 
         before = resident(process.pid)
         way(log, chance)
         time.sleep(AFTER)
-        after, words = (resident(process.pid), said(process.pid)) if process.poll() is None else (0, "")
+        wanted, until = SAYS.get(name, ""), time.monotonic() + SLOWEST
+        while process.poll() is None and wanted not in (words := said(process.pid)) and time.monotonic() < until:
+            time.sleep(AFTER)
+        after = resident(process.pid) if process.poll() is None else 0
         try:
             output, errors = process.communicate(timeout=PATIENCE)
         except subprocess.TimeoutExpired:
@@ -161,8 +165,7 @@ def damaged(program: Path, processors: int, name: str, seed: str) -> tuple[int, 
         return 0, f"status {process.returncode}: {errors.strip()[:120]}"
     if after - before > MOST_GROWTH:
         return int(output), f"its memory grew by {after - before} kB"
-    wanted = SAYS.get(name, words)
-    is_wanted = wanted in words and bool(wanted) == bool(words)
+    is_wanted = name not in SAYS or wanted in words and bool(wanted) == bool(words)
     return int(output), "" if is_wanted else f"netrev-go says {words!r}"
 
 

@@ -134,7 +134,7 @@ def test_without_netrev_a_clone_says_what_make_does(tmp_path: Path) -> None:
     words = [ROOT / "nrdb", "--netrev", "/nowhere/netrev", "a b.jsonl"]
     run = subprocess.run(list(map(str, words)), cwd=tmp_path, capture_output=True, text=True, timeout=PATIENCE)
     build, look = re.findall(r"`(make .*?)`", run.stdout)
-    for command, script in ((build, "scripts/prove.sh"), (look, f'scripts/look.py "{tmp_path}/a b.jsonl"')):
+    for command, script in ((build, "scripts/prove.sh"), (look, f"scripts/look.py '{tmp_path}/a b.jsonl'")):
         dry = subprocess.run(
             ["sh", "-c", command.replace("make ", "make -n ")], cwd=tmp_path, capture_output=True, text=True, timeout=PATIENCE
         )  # fmt: skip
