@@ -208,10 +208,11 @@ real: ready
 	@sh scripts/pytest.sh $(addprefix python/tests/real_go/,go_tool.py go_kept.py go_planted.py go_signals.py go_tests.py go_waits.py)
 	@python3 python dev.recorder.real --only $(call quoted,$(ONLY)) --tests $(call quoted,$(TESTS)) --go $(call quoted,$(GO))
 
-# Tests that recording changes nothing about a program and loses no run: `make trials GO="1.19 1.27"`. A release takes about ten minutes;
-# the gate runs only a part.
+# Tests that recording changes nothing about a program, whatever happens to its log, and loses no run: `make trials GO="1.19 1.27"`. A release
+# takes about half an hour; the gate runs only a part.
 trials: ready
 	@python3 python tests.trials.go_untouched $(call each,$(GO))
+	@python3 python tests.trials.go_damaged $(call each,$(GO))
 	@python3 python tests.trials.go_killed $(call each,$(GO))
 
 # Removes what was built and checked in this folder, but not what `make test` stores elsewhere on this machine.
