@@ -162,7 +162,7 @@ def watch(options: argparse.Namespace, go: Go | None, recording_options: Recordi
     try:
         while not log.fault:
             if found := first_stuck(options, log, go):
-                recording_options = replace(recording_options, first=found.word, failed=True)
+                recording_options = replace(recording_options, first=found.word, stuck=found.goroutine, failed=True)
                 break
             log, began = log_of_process(options.pid), start_of(options.pid)
             if began != start:

@@ -44,8 +44,8 @@ def outcome_of(status: int, printed: bytes, errors: bytes) -> tuple[bool, str]:
 class Analysis:
     """The library's findings about a recording. Netrev runs in the background, and is ended when the `with` block ends."""
 
-    def __init__(self, netrev: str, name: pathlib.Path) -> None:
-        self._netrev, self._path = netrev, file_word(name)
+    def __init__(self, netrev: str, name: pathlib.Path, stuck: int = 0) -> None:
+        self._netrev, self._path, self._stuck = netrev, file_word(name), stuck
         self._printed = PrintedChanges(netrev, self._path)
         self.recording: Recording | None = None  # as it was read, with netrev's changes
 
@@ -67,7 +67,7 @@ class Analysis:
         from netrev.findings.causes.first_output import first_findings
 
         with time_limit(OF_CAUSES, messages.LATE_CAUSES), self._read() as recording:
-            return first_findings(recording)
+            return first_findings(recording, self._stuck)
 
     def values(self) -> Values:
         """The values of all cells at the end, if netrev lists the changes."""

@@ -52,6 +52,7 @@ class RecordingOptions:
     all_bytes: bool = False
     failed: bool = False  # Go's command failed, or a call hangs: the report begins with the causes
     first: int = 0  # the address of the lock word of a socket to keep before all others if not all fit
+    stuck: int = 0  # Go's number of a goroutine that waits on that socket, with which the report begins
 
 
 def more_endings(options: RecordingOptions) -> list[str]:
@@ -163,7 +164,7 @@ def converted(
     write(recording, name, write_others, read.permissions)
     if any(recording.stacks) and not has_lines:
         recording.notes.append(messages.NO_LINES)
-    return report(recording, name, calls, options.failed, hear)
+    return report(recording, name, calls, options.failed, hear, options.stuck)
 
 
 def calls_of(read: ReadLog, used: set[int], go: Go) -> dict[int, Calls]:

@@ -259,14 +259,16 @@ def report(
     calls: dict[int, Calls],
     failed: bool = False,
     hear: Hear = unheard,
+    stuck: int = 0,
 ) -> Conversion:
-    """The report about a recording. `failed` is whether the program failed. `hear` receives the lines as soon as they
+    """The report about a recording. `failed` is whether the program failed, and `stuck` Go's number of a goroutine that
+    has waited for too long. `hear` receives the lines as soon as they
     are known: why calls failed or hang, long before the suspects."""
     printed, netrev = Report(recording, name, calls, hear), netrev_program()
     if netrev is None:
         unchecked = messages.UNCHECKED.format(how=how_to_get_netrev())
         printed.say([*printed.head(f"{counted(len(recording.lines), 'step')}; "), unchecked])
         return Conversion(True, printed.lines)
-    with Analysis(netrev, name) as analysis:
+    with Analysis(netrev, name, stuck) as analysis:
         taken = printed.whole(netrev, analysis, failed)
         return Conversion(taken, printed.lines, False, printed.shown, analysis.recording)

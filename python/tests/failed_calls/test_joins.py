@@ -8,7 +8,7 @@ from typing import cast
 
 import pytest
 
-from netrev.findings.causes.first_output import failures_of, first_words, hangs_of
+from netrev.findings.causes.first_output import failures_of, first_findings, first_words, hangs_of
 from netrev.findings.evidence.deadlines_ahead import deadline_ahead
 from netrev.findings.evidence.need import Certainty, Need
 from netrev.findings.evidence.waiters import Waiter
@@ -81,6 +81,13 @@ def test_a_hang_of_a_program_that_ended_is_below_the_failed_call_that_it_explain
     (topic,) = joined(graph, [Topic(failures_of(recording)[0]), Topic(None, hang)])
     assert graph.has_ended and topic.hang is hang
     assert topic.because == "Goroutine 2, at the other end, was waiting then, and still is."
+
+
+@pytest.mark.parametrize("stuck, function", [(0, "ask"), (21, "mingled.func1")])
+def test_the_call_that_was_found_to_hang_comes_before_earlier_failures(stuck: int, function: str) -> None:
+    recording = stored("mingled-bad")
+    findings = first_findings(recording, stuck).shown
+    assert f" in {function}" in findings[0].sentences[0] and len(findings) == 1 + bool(stuck)
 
 
 def test_a_hang_of_the_goroutine_of_a_failed_call_is_below_that() -> None:

@@ -49,12 +49,14 @@ def first_words(recording: Recording, name: str) -> list[str]:
     return first_findings(recording).lines(name)
 
 
-def first_findings(recording: Recording) -> FirstFindings:
-    """The findings of the first output."""
+def first_findings(recording: Recording, stuck: int = 0) -> FirstFindings:
+    """The findings of the first output. If Go's goroutine `stuck` was found to wait for too long, they begin with its
+    wait."""
     failed, shown = failures_of(recording), set[int]()
     graph = graph_at(recording, recording.length)
-    hangs = hangs_of(graph, bool(failed))
-    topics = topics_of(graph, failed[:MOST_FAILED], hangs[:MOST_HANGS])
+    of_stuck = hangs_with(graph, name_of_goid(recording.lines, stuck)) if stuck else []
+    hangs = [*of_stuck, *(hang for hang in hangs_of(graph, bool(failed)) if hang not in of_stuck)]
+    topics = topics_of(graph, failed[:MOST_FAILED], hangs[:MOST_HANGS], bool(of_stuck))
     found = [finding_of_topic(graph, topic, shown) for topic in topics]
     left_out = len(failed) + len(hangs) - len([topic for topic in topics if topic.cause]) - count_in(hangs, topics)
     perhaps = list[Finding]()
@@ -105,13 +107,11 @@ def finding_of_dial(recording: Recording, dial: FailedDial) -> Finding:
     return Finding(Kind.REFUSED_DIAL, sentences, place, (dial.step,), (name,), (f"goto {dial.step}", "info goroutines"))
 
 
-def topics_of(graph: WaitGraph, failed: list[Cause], hangs: list[Hang]) -> list[Topic]:
+def topics_of(graph: WaitGraph, failed: list[Cause], hangs: list[Hang], is_first_meant: bool = False) -> list[Topic]:
     """The topics of the first output, in order. Each hang is joined to the failed call that it explains or follows
     from."""
-    order = [
-        Topic(None, topic) if isinstance(topic, Hang) else Topic(topic) for topic in in_order(graph, failed, hangs)
-    ]
-    return joined(graph, order)
+    topics = in_order(graph, failed, hangs, is_first_meant)
+    return joined(graph, [Topic(None, topic) if isinstance(topic, Hang) else Topic(topic) for topic in topics])
 
 
 def count_in(hangs: list[Hang], topics: list[Topic]) -> int:
@@ -137,14 +137,22 @@ def topic_lines(graph: WaitGraph, topic: Topic, shown: set[int]) -> list[str]:
     return [*says, *source, *(left or [topic.because]), *(f"  {line}" for line in of_hang)]
 
 
-def in_order(graph: WaitGraph, failed: list[Cause], hangs: list[Hang]) -> list[Cause | Hang]:
+def in_order(
+    graph: WaitGraph, failed: list[Cause], hangs: list[Hang], is_first_meant: bool = False
+) -> list[Cause | Hang]:
     """The failures and hangs in the order in which they are shown. Failures come first. If the main goroutine hangs for
-    a known reason, failures unrelated to its hang come last, because the program went on after them."""
+    a known reason, or the first hang is the one that the user asked for, failures unrelated to it come last, because the
+    program went on after them."""
     first = next(iter(hangs), None)
-    if first is None or not is_of_main(graph, first):
+    if first is None or not (is_first_meant or is_of_main(graph, first)):
         return [*failed, *hangs]
     of_hang = [cause for cause in failed if concerns(graph, first, cause.call)]
     return [*of_hang, *hangs, *(cause for cause in failed if not any(cause is other for other in of_hang))]
+
+
+def hangs_with(graph: WaitGraph, name: Name | None) -> list[Hang]:
+    """The hangs in which this goroutine waits."""
+    return [hang for hang in graph.shown if any(waiter.name == name for waiter in waiters_of(hang))]
 
 
 def is_of_main(graph: WaitGraph, hang: Hang) -> bool:
@@ -201,8 +209,7 @@ def hangs_of(graph: WaitGraph, has_failures: bool) -> list[Hang]:
         return left or [hang for hang in hangs if is_at_mutex(hang.root) and hang.has_reason and not has_failures]
     if hangs or has_failures:
         return hangs
-    of_main = [hang for hang in graph.shown if any(waiter.name == graph.main for waiter in waiters_of(hang))]
-    return of_main or graph.shown
+    return hangs_with(graph, graph.main) or graph.shown
 
 
 def is_waited_for(hang: Hang) -> bool:
