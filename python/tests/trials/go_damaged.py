@@ -2,7 +2,7 @@
 server must go on: no request fails, it ends with status 0 and prints nothing else, and its memory stays. netrev-go must
 say what happened.
 
-    python3 python tests.trials.go_damaged [--each N] [--beside N] [--seed S] [RELEASE ..]
+    python3 python tests.trials.go_damaged [--each N] [--beside N] [--seed S] [--way NAME] [RELEASE ..]
 
 It prints a line for each way, with the number of requests that came after the damage. The exit status is 1 if a server
 didn't go on. The device of two ways is a file system in memory that only root can mount; without root, they are left
@@ -113,9 +113,9 @@ def device() -> Iterator[Path]:
             subprocess.run(["umount", folder], check=True)
 
 
-def resident(process: int) -> int:
-    """The memory of a process in kB."""
-    found = re.search(r"^VmRSS:\s+(\d+) kB", Path(f"/proc/{process}/status").read_text(), re.MULTILINE)
+def own_memory(process: int) -> int:
+    """The memory of a process in kB, without that of mapped files."""
+    found = re.search(r"^RssAnon:\s+(\d+) kB", Path(f"/proc/{process}/status").read_text(), re.MULTILINE)
     return int(found[1]) if found else 0
 
 
@@ -148,13 +148,13 @@ def damaged(program: Path, processors: int, name: str, seed: str) -> tuple[int, 
         while not log.exists() and process.poll() is None:
             time.sleep(0.001)
         time.sleep(chance.uniform(EARLIEST, LATEST))
-        before = resident(process.pid)
+        before = own_memory(process.pid)
         way(log, chance)
         time.sleep(AFTER)
         wanted, until = SAYS.get(name, ""), time.monotonic() + SLOWEST
         while process.poll() is None and wanted not in (words := said(process.pid)) and time.monotonic() < until:
             time.sleep(AFTER)
-        after = resident(process.pid) if process.poll() is None else 0
+        after = own_memory(process.pid) if process.poll() is None else 0
         try:
             output, errors = process.communicate(timeout=PATIENCE)
         except subprocess.TimeoutExpired:
@@ -174,6 +174,7 @@ def main(words: list[str]) -> int:
     parser.add_argument("--each", type=int, default=100, help="runs of each way, on so many processors, and release")
     parser.add_argument("--beside", type=int, default=2, help="runs at the same time")
     parser.add_argument("--seed", type=int, default=1)
+    parser.add_argument("--way", action="append", help="only this way; may be given several times")
     parser.add_argument("releases", nargs="*", default=["1.19", "1.27"])
     options, status = parser.parse_args(words), 0
     ways = WAYS | (ON_A_DEVICE if os.geteuid() == 0 else {})
@@ -181,7 +182,7 @@ def main(words: list[str]) -> int:
         with tempfile.TemporaryDirectory() as folder, ThreadPoolExecutor(options.beside) as runs:
             program = Path(folder, "server")
             build(go_of(release), Path(__file__).with_suffix(".go"), program)
-            for name in ways:
+            for name in options.way or ways:
                 for processors in PROCESSORS:
                     seeds = [f"{options.seed} {release} {name} {processors} {run}" for run in range(options.each)]
                     done = list(runs.map(lambda seed: damaged(program, processors, name, seed), seeds))
