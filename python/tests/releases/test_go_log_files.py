@@ -46,14 +46,17 @@ def running(words: list[str | Path], folder: Path, name: str = "log", **settings
     )  # fmt: skip
     assert process.stdin
     until = time.monotonic() + 20
-    while process.poll() is None and "netrev" not in names_of(process.pid) and time.monotonic() < until:
-        if any(str(folder) in line for line in names_of(process.pid).splitlines()):
-            break
+    while process.poll() is None and not has_begun(process.pid, folder) and time.monotonic() < until:
         time.sleep(0.01)
-    time.sleep(0.05)
     yield process.pid
     process.stdin.close()
     assert process.wait() == 0
+
+
+def has_begun(process: int, folder: Path) -> bool:
+    """Whether a process has written the header of a log in this folder, or has said why it writes none."""
+    logs = [Path(name) for name in names_of(process).split("\n") if name.startswith(f"{folder}/log")]
+    return "/memfd:netrev-" in names_of(process) or any(any(log.read_bytes()[:8]) for log in logs if log.exists())
 
 
 def names_of(process: int) -> str:
