@@ -13,6 +13,7 @@ from pathlib import Path
 import pytest
 
 from dev.recorder.fetching import is_here
+from netrev_go.go_command import process_logs
 from netrev_go.go_command.toolchain import overlay, quiet_go
 from netrev_go.log.logfile import HEADER_BYTES, MOST_POINTS, NOT_A_NUMBER, Header
 from tests.trials import go_damaged
@@ -55,8 +56,9 @@ def running(words: list[str | Path], folder: Path, name: str = "log", **settings
 
 def has_begun(process: int, folder: Path) -> bool:
     """Whether a process has written the header of a log in this folder, or has said why it writes none."""
-    logs = [Path(name) for name in names_of(process).split("\n") if name.startswith(f"{folder}/log")]
-    return "/memfd:netrev-" in names_of(process) or any(any(log.read_bytes()[:8]) for log in logs if log.exists())
+    names = names_of(process).split("\n")
+    begun = (process_logs.has_begun(Path(name), process) for name in names if name.startswith(f"{folder}/log"))
+    return any(name.startswith("/memfd:netrev-") for name in names) or any(begun)
 
 
 def names_of(process: int) -> str:
