@@ -230,8 +230,7 @@ def reading_list(tree: Tree) -> Iterator[Finding]:
                 f"{law.says} rests on {lines:,} lines of definitions, but at most {law.most_lines:,} are allowed",
             )
     yield from _differences(tree.text(PAGE), [row for row in tables(tree) if row])
-    every = (*found.of_laws, found.all, *hunts.of_laws, hunts.all, found.all | hunts.all)
-    counts = [found.count(places) for places in every]
+    counts = map(found.count, (*found.of_laws, found.all, *hunts.of_laws, hunts.all, found.all | hunts.all))
     yield from _in_words(tree, {(f"{count.definitions:,}", f"{count.lines:,}") for count in counts})
 
 
