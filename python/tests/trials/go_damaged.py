@@ -22,7 +22,7 @@ from concurrent.futures import ThreadPoolExecutor
 from contextlib import ExitStack, contextmanager
 from pathlib import Path
 
-from netrev_go.go_command.process_logs import log_of_process
+from netrev_go.go_command.process_logs import has_begun, log_of_process
 from netrev_go.go_command.running import places
 from netrev_go.go_command.toolchain import RecorderError
 from netrev_go.log.logfile import PAGE
@@ -145,7 +145,7 @@ def damaged(program: Path, processors: int, name: str, seed: str) -> tuple[int, 
             stdin=subprocess.PIPE, stdout=subprocess.PIPE, stderr=subprocess.PIPE,
         )  # fmt: skip
         log = folder / f"log.{process.pid}"
-        while not log.exists() and process.poll() is None:
+        while process.poll() is None and not (log.exists() and has_begun(log, process.pid)):
             time.sleep(0.001)
         time.sleep(chance.uniform(EARLIEST, LATEST))
         before = own_memory(process.pid)
