@@ -4,9 +4,9 @@ say what happened.
 
     python3 python tests.trials.go_damaged [--each N] [--beside N] [--seed S] [--way NAME] [RELEASE ..]
 
-It prints a line for each way, with the number of requests that came after the damage. The exit status is 1 if a server
-didn't go on. The device of two ways is a file system in memory that only root can mount; without root, they are left
-out and named."""
+It prints a line for each way, with the number of requests in all its runs. The exit status is 1 if a server didn't go
+on. The device of two ways is a file system in memory that only root can mount; without root, they are left out and
+named."""
 
 import argparse
 import ctypes
